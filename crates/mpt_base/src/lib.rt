@@ -1,0 +1,11 @@
+//! What everything else stands on: numbers in bytes, sums, the reasons for which tables are
+//! refused, and the outside world as two traits, a shelf of files and a sink for text.
+#![tactic(auto)]
+
+mod fault;
+mod numbers;
+mod outside;
+
+pub use fault::{Fault, Reason};
+pub use numbers::{sum8, u16_at, u32_at, u64_at};
+pub use outside::{Failed, NoMemory, Shelf, Sink};
