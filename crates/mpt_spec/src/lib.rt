@@ -1,13 +1,15 @@
-// A library with one function.
+//! What is true of the tables of MultiProcessor Specification 1.4: their values as plain types, and,
+//! in `specs/`, the definitions that every contract cites. Nothing here reads, writes or searches.
 #![tactic(auto)]
 
-ghost use Rattle.std.specs.Prelude.{◌≡◌};
-ghost use Rattle.mpt_spec.specs.Echo.{echo_of};
+mod entry;
+mod pointer;
+mod sequence;
+mod tables;
 
-// The `ensures` clause is the contract: what `echo` returns is `echo_of` of its argument, a definition
-// in `specs/Echo.antt`, which a caller's clause can cite too.
-pub fn echo(x: usize) -> usize
-    ensures { result ≡ echo_of x }
-{
-    x
-}
+pub use entry::{
+    Base, Bus, Ext, Hierarchy, IntEntry, IoApic, Modifier, Opaque, Processor, Space,
+};
+pub use pointer::{Area, Pointer};
+pub use sequence::Sequence;
+pub use tables::{Body, Table, Tables};
