@@ -1,3 +1,5 @@
 pub mod Bytes
+pub mod Count
+pub mod MemSink
 pub mod Outside
 pub mod Reason
