@@ -3,11 +3,13 @@
 #![tactic(auto)]
 
 mod fault;
+mod mem_shelf;
 mod mem_sink;
 mod numbers;
 mod outside;
 
 pub use fault::{Fault, Reason};
+pub use mem_shelf::MemShelf;
 pub use mem_sink::MemSink;
 pub use numbers::{sum8, u16_at, u32_at, u64_at};
 pub use outside::{Failed, NoMemory, Shelf, Sink};
