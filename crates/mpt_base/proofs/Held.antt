@@ -1,10 +1,10 @@
 -- The files of a shelf in memory, which are kept in a map by text, as a finite map by the bytes of their names.
-use Rattle.std.proofs.Common.{◌≡◌, ℕ, Bool, true, false, cond, List, [], ◌∷◌, map, Option, Some, None, String, refl, sym, ap, ◌∙◌}
+use Rattle.std.proofs.Common.{◌≡◌, ℕ, Bool, true, false, cond, List, [], ◌∷◌, map, Option, Some, String, refl, sym, ap, ◌∙◌}
 use Rattle.std.specs.Prelude.{option_map, string_bytes, bytes_eq, string_cmp}
 use Rattle.std.specs.Ordering.{nat_cmp, eq_by_cmp}
 use Rattle.std.specs.Cmp.Lexicographic.{slice_cmp}
 use Rattle.std.specs.Cmp.{eq_by_cmp_equiv}
-use Rattle.std.specs.Map.{lookup, update}
+use Rattle.std.specs.Map.{lookup}
 use Rattle.std.specs.BTreeMap.{BTreeMap, is_at, get_by_text, Updates}
 use Rattle.std.specs.FinMap.{FinMap, from_entries, get, insert, find, get-from_entries, get-insert, same_map, slice_cmp-IsAntisymmetric, nat_cmp-IsAntisymmetric}
 use Rattle.std.specs.Cmp.Lexicographic.{nat_list_cmp_total}
@@ -38,9 +38,9 @@ pub held-insert : {Y F : Type 0} (contents : F → List ℕ) (old new : BTreeMap
     → held contents new.entries ≡ insert (held contents old.entries) (string_bytes key) (contents file)
 held-insert contents old new key file updates =
     same_map nat_list_cmp_total (slice_cmp-IsAntisymmetric nat_cmp-IsAntisymmetric) _ _ (λ name.
-        get-held contents new name
-        ∙ ap (option_map contents) (btree_map_updates_text (string_bytes key) old new (Some file) updates name)
-        ∙ updated contents (bytes_eq (string_bytes key) name) file (get_by_text old name)
-        ∙ ap (λ b. cond b (Some (contents file)) (option_map contents (get_by_text old name))) (sym (is_eq-slice_cmp (string_bytes key) name) ∙ (eq_by_cmp_equiv nat_list_cmp_total).symm (string_bytes key) name)
-        ∙ ap (λ before. cond (eq_by_cmp (slice_cmp nat_cmp) name (string_bytes key)) (Some (contents file)) before) (sym (get-held contents old name))
-        ∙ sym (get-insert nat_list_cmp_total (held contents old.entries) (string_bytes key) (contents file) name))
+    get-held contents new name
+    ∙ ap (option_map contents) (btree_map_updates_text (string_bytes key) old new (Some file) updates name)
+    ∙ updated contents (bytes_eq (string_bytes key) name) file (get_by_text old name)
+    ∙ ap (λ b. cond b (Some (contents file)) (option_map contents (get_by_text old name))) (sym (is_eq-slice_cmp (string_bytes key) name) ∙ (eq_by_cmp_equiv nat_list_cmp_total).symm (string_bytes key) name)
+    ∙ ap (λ before. cond (eq_by_cmp (slice_cmp nat_cmp) name (string_bytes key)) (Some (contents file)) before) (sym (get-held contents old name))
+    ∙ sym (get-insert nat_list_cmp_total (held contents old.entries) (string_bytes key) (contents file) name))

@@ -1,5 +1,6 @@
 pub mod Bytes
 pub mod Count
+pub mod Edge
 pub mod MemShelf
 pub mod MemSink
 pub mod Outside

@@ -5,11 +5,10 @@ ghost use Rattle.mpt_base.specs.Bytes.{part};
 ghost use Rattle.mpt_base.specs.Outside.{Rose, IsSizeTold, IsInsideTold, FillsFromTold};
 ghost use Rattle.mpt_base.specs.MemShelf.{file_of, empty_shelf, IsToFail, with_file, with_failing_call, after_call, after_failure, after_miss, asking};
 
+use crate::outside::{Failed, NoMemory, Shelf};
 use std::alloc::Global;
 use std::collections::BTreeMap;
 use std::marker::Model;
-
-use crate::outside::{Failed, NoMemory, Shelf};
 
 /// A shelf that keeps its files in memory.
 ///

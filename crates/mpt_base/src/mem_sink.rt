@@ -4,10 +4,9 @@ ghost use Rattle.std.specs.Prelude.{◌≡◌, ◌+◌, ◌++◌, ◌≤◌, ◌
 ghost use Rattle.mpt_base.specs.Outside.{Rose, Appends, AppendsPrefix};
 ghost use Rattle.mpt_base.specs.MemSink.{empty_sink, IsRefused, after_piece, after_refusal, with_failing_put};
 
+use crate::outside::{Failed, NoMemory, Sink};
 use std::alloc::Global;
 use std::marker::Model;
-
-use crate::outside::{Failed, NoMemory, Sink};
 
 /// A sink that keeps its bytes in memory.
 ///

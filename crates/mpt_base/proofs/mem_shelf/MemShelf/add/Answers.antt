@@ -1,4 +1,3 @@
-use Rattle.std.proofs.Common.{sym}
 use Rattle.std.specs.Prelude.{vec_items}
 use Rattle.mpt_base.proofs.Held.{held-insert}
 use Rattle.mpt_base.proofs.mem_shelf.MemShelf.add.Goals as goal
