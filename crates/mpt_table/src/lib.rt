@@ -1,1 +1,8 @@
+//! The reader of an image: what tables it describes, or the first fault for which they are refused
+//! (MultiProcessor Specification 1.4, chapter 4).
 #![tactic(auto)]
+
+mod header;
+mod pointer_fault;
+
+pub use mpt_spec::{Body, Pointer, Table, Tables};

@@ -1,0 +1,2 @@
+pub mod PointerFaults
+pub mod TableFaults
