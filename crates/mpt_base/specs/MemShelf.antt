@@ -1,5 +1,5 @@
 -- What a shelf in memory is to its callers, and what its calls do to it.
-use Rattle.std.specs.Prelude.{ℕ, List, [], ◌∷◌, ◌++◌, Option, Contains, refl}
+use Rattle.std.specs.Prelude.{ℕ, List, [], ◌∷◌, ◌++◌, Option, Contains, String, string_bytes, map as pairs, refl}
 use Rattle.std.specs.Ordering.{nat_cmp}
 use Rattle.std.specs.Cmp.Lexicographic.{slice_cmp}
 use Rattle.std.specs.FinMap as map
@@ -9,6 +9,10 @@ use Rattle.mpt_base.specs.Count.{next_count, count_after}
 -- files by the bytes of their names
 abbrev pub NamedFiles : Type 0
 NamedFiles = map.FinMap (slice_cmp nat_cmp) (List ℕ)
+
+-- the files of a map by text, where `contents` gives the bytes of a file
+abbrev pub files_by_name : {Y F : Type 0} → (F → List ℕ) → List (String Y × F) → NamedFiles
+files_by_name contents files = map.from_entries (pairs (λ file. (string_bytes file.0, contents file.1)) files)
 
 -- the files, the numbers of the calls that fail, how many calls there were, how many of them failed, how many found no file, and how many bytes were asked for
 pub record ShelfState : Type 0 where

@@ -2,7 +2,7 @@
 
 ghost use Rattle.std.specs.Prelude.{◌≡◌, ◌+◌, ◌≤◌, length, IfOk, OnOk, OnErr, IfNone, IfSome};
 ghost use Rattle.mpt_base.specs.Outside.{Rose, IsSizeTold, FillsFromTold};
-ghost use Rattle.mpt_base.specs.Edge.{untold_files, no_shelf_counts, counting_fault, counting_miss, counting_asked};
+ghost use Rattle.mpt_base.specs.FileShelf.{untold_files, no_shelf_counts, counting_fault, counting_miss, counting_asked};
 
 use crate::outside::{Failed, Shelf};
 use std::alloc::Global;
@@ -26,7 +26,7 @@ pub struct FileShelf<'a, R: Files> {
 }
 
 impl<'a, R: Files> Model for FileShelf<'a, R> {
-    ghost use Rattle.mpt_base.specs.Edge.{ShelfCounts};
+    ghost use Rattle.mpt_base.specs.FileShelf.{ShelfCounts};
 
     ghost Value = { ShelfCounts };
 

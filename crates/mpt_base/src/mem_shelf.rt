@@ -25,15 +25,14 @@ pub struct MemShelf {
 }
 
 impl Model for MemShelf {
-    ghost use Rattle.std.specs.Prelude.{map, string_bytes};
-    ghost use Rattle.std.specs.FinMap.{from_entries};
-    ghost use Rattle.mpt_base.specs.MemShelf.{ShelfState, shelf_code};
+    ghost use Rattle.std.specs.Prelude.{vec_items};
+    ghost use Rattle.mpt_base.specs.MemShelf.{ShelfState, shelf_code, files_by_name};
 
     ghost Value = { ShelfState };
 
     ghost coded = { shelf_code };
 
-    ghost view = { λ s. record { held = from_entries (map (λ file. (string_bytes file.0, file.1.items)) s.files.entries); failing = s.failing.items; calls = s.calls; faults = s.faults; misses = s.misses; asked = s.asked } };
+    ghost view = { λ s. record { held = files_by_name vec_items s.files.entries; failing = s.failing.items; calls = s.calls; faults = s.faults; misses = s.misses; asked = s.asked } };
 }
 
 impl MemShelf {

@@ -2,7 +2,7 @@
 
 ghost use Rattle.std.specs.Prelude.{◌≡◌, ◌≤◌, OnOk, OnErr};
 ghost use Rattle.mpt_base.specs.Outside.{Rose, Appends, AppendsPrefix};
-ghost use Rattle.mpt_base.specs.Edge.{untold_bytes, no_sink_counts, counting_refusal};
+ghost use Rattle.mpt_base.specs.OutSink.{untold_bytes, no_sink_counts, counting_refusal};
 
 use crate::outside::{Failed, Sink};
 use std::alloc::Global;
@@ -19,7 +19,7 @@ pub struct OutSink<'a, R: Print> {
 }
 
 impl<'a, R: Print> Model for OutSink<'a, R> {
-    ghost use Rattle.mpt_base.specs.Edge.{SinkCounts};
+    ghost use Rattle.mpt_base.specs.OutSink.{SinkCounts};
 
     ghost Value = { SinkCounts };
 

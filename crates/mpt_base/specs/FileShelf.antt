@@ -1,5 +1,5 @@
--- What the shelf and the sink over the operating system tell: their counts alone.
-use Rattle.std.specs.Prelude.{ℕ, List, Option, None}
+-- What the shelf over the operating system tells: its counts, and no contents.
+use Rattle.std.specs.Prelude.{ℕ, Option, None}
 use Rattle.mpt_base.specs.Count.{next_count, count_after}
 use Rattle.mpt_base.specs.Outside.{Files}
 
@@ -9,25 +9,13 @@ pub record ShelfCounts : Type 0 where
   pub misses : ℕ
   pub asked : ℕ
 
--- how many calls failed
-pub record SinkCounts : Type 0 where
-  pub faults : ℕ
-
 -- the files of a shelf that tells no contents
 abbrev pub untold_files : Option Files
 untold_files = None
 
--- the bytes of a sink that tells none
-abbrev pub untold_bytes : Option (List ℕ)
-untold_bytes = None
-
 -- the counts of a shelf to which nothing has happened
 abbrev pub no_shelf_counts : ShelfCounts
 no_shelf_counts = record { faults = 0; misses = 0; asked = 0 }
-
--- the counts of a sink to which nothing has happened
-abbrev pub no_sink_counts : SinkCounts
-no_sink_counts = record { faults = 0 }
 
 -- the counts after a call that failed
 abbrev pub counting_fault : ShelfCounts → ShelfCounts
@@ -40,7 +28,3 @@ counting_miss counts = record counts { misses = next_count counts.misses }
 -- the counts when n bytes have been asked for
 abbrev pub counting_asked : ShelfCounts → ℕ → ShelfCounts
 counting_asked counts n = record counts { asked = count_after counts.asked n }
-
--- the counts of a sink after a call that failed
-abbrev pub counting_refusal : SinkCounts → SinkCounts
-counting_refusal counts = record { faults = next_count counts.faults }
