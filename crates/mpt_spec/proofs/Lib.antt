@@ -1,2 +1,4 @@
 pub mod SearchLemmas
 pub mod CallerLemmas
+pub mod ByteLemmas
+pub mod WrittenLemmas
