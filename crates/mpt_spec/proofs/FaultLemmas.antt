@@ -50,6 +50,9 @@ numbered why.BadExtType = record { small = omega arith; back = refl }
 numbered why.BadExtLength = record { small = omega arith; back = refl }
 numbered why.CutExtEntry = record { small = omega arith; back = refl }
 
+pub reason_number-small : (w : Reason) → reason_number w < 32
+reason_number-small w = (numbered w).small
+
 -- the order tells offset and reason apart
 same_fault : (k j m n : ℕ) → m < 32 → n < 32 → 32 * k + m ≤ 32 * j + n → 32 * j + n ≤ 32 * k + m → (k ≡ j) × (m ≡ n)
 same_fault k j m n small other one two = (omega arith, omega arith)

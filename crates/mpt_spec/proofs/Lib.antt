@@ -5,4 +5,6 @@ pub mod ByteLemmas
 pub mod WrittenLemmas
 pub mod TableLemmas
 pub mod FaultLemmas
+pub mod FirstFaultLemmas
 pub mod ExampleLemmas
+pub mod FaultExamples

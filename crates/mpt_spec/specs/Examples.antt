@@ -72,9 +72,13 @@ small_pointer_bytes = pointer_bytes_with 0x510 0x8B 0
 abbrev pub image_with : ℕ → List ℕ → List ℕ → List ℕ
 image_with ebda pointer table = replicate 0x40E 0 ++ to_le_bytes w16 ebda ++ replicate 0xF0 0 ++ pointer ++ table
 
+-- the small image with these bytes from 510h on
+abbrev pub small_image_with : List ℕ → List ℕ
+small_image_with table = image_with 0x50 small_pointer_bytes table
+
 -- the small image
 abbrev pub small_image : List ℕ
-small_image = image_with 0x50 small_pointer_bytes one_processor_bytes
+small_image = small_image_with one_processor_bytes
 
 -- what it describes
 abbrev pub small_tables : Tables
@@ -87,6 +91,26 @@ extended_tables = record {
   pointer = small_pointer;
   body = body.Listed (record one_processor { ext = ext.Opaque (record { kind = 0xC8; rest = [] }) ∷ [] });
 }
+
+-- the image of a default configuration of this number
+abbrev pub default_image : ℕ → ℕ → List ℕ
+default_image number checksum = image_with 0x50 (pointer_bytes_with 0 checksum number) []
+
+-- what it describes
+abbrev pub default_tables : ℕ → Tables
+default_tables number = record {
+  at = 0x500;
+  pointer = record { address = 0; revision = 4; features = number ∷ 0 ∷ 0 ∷ 0 ∷ 0 ∷ [] };
+  body = body.Default number;
+}
+
+-- a floating pointer of which one byte is wrong at 500h, a right one at 510h, and its table at 520h
+abbrev pub second_place_image : List ℕ
+second_place_image = image_with 0x50 (pointer_bytes_with 0x520 0x7A 0) (pointer_bytes_with 0x520 0x7B 0 ++ one_processor_bytes)
+
+-- what it describes
+abbrev pub second_place_tables : Tables
+second_place_tables = record { at = 0x510; pointer = record small_pointer { address = 0x520 }; body = body.Listed one_processor }
 
 -- an I/O interrupt of the board, to its I/O APIC
 abbrev pub io_interrupt : ℕ → ℕ → ℕ → ℕ → Base
