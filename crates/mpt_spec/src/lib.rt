@@ -3,6 +3,7 @@
 #![tactic(auto)]
 
 mod entry;
+pub mod examples;
 pub mod laws;
 mod pointer;
 mod sequence;
