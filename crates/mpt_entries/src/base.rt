@@ -8,7 +8,7 @@ ghost use Rattle.mpt_entries.specs.Answers.{IfFault, AnswersEntries, AnswersFaul
 
 use crate::fields::{bytes_at, read_field, read_fields};
 use crate::layouts::{bus_layout, interrupt_layout, io_apic_layout, processor_layout};
-use crate::stop::Stop;
+use crate::stop::{Stop, fault_at};
 use mpt_base::{Fault, Reason, u16_at, u32_at};
 use mpt_spec::{Base, Bus, IntEntry, IoApic, Processor};
 use std::alloc::Global;
@@ -83,14 +83,8 @@ fn entry_at(bytes: &[u8], at: usize, to: usize) -> Result<Base, Fault>
         IO_APIC if left >= OTHER_LENGTH => Ok(Base::IoApic(io_apic_at(bytes, at))),
         IO_INTERRUPT if left >= OTHER_LENGTH => Ok(Base::IoInt(interrupt_at(bytes, at))),
         LOCAL_INTERRUPT if left >= OTHER_LENGTH => Ok(Base::LocalInt(interrupt_at(bytes, at))),
-        PROCESSOR..=LOCAL_INTERRUPT => Err(Fault {
-            at: at as u64,
-            why: Reason::CutEntry,
-        }),
-        _ => Err(Fault {
-            at: at as u64,
-            why: Reason::UnknownEntry,
-        }),
+        PROCESSOR..=LOCAL_INTERRUPT => Err(fault_at(at, Reason::CutEntry)),
+        _ => Err(fault_at(at, Reason::UnknownEntry)),
     }
 }
 

@@ -8,7 +8,7 @@ ghost use Rattle.mpt_entries.specs.Answers.{IfFault, AnswersEntries, AnswersFaul
 
 use crate::fields::{bytes_at, read_field, read_fields};
 use crate::layouts::{hierarchy_layout, modifier_layout, space_layout};
-use crate::stop::Stop;
+use crate::stop::{Stop, fault_at};
 use mpt_base::{Fault, Reason, u32_at, u64_at};
 use mpt_spec::{Ext, Hierarchy, Modifier, Opaque, Sequence, Space};
 use std::alloc::{AllocError, Global};
@@ -84,29 +84,17 @@ fn length_at(bytes: &[u8], at: usize, to: usize) -> Result<usize, Fault>
     ensures fault { IfErr result (λ f. IsExtFaultIn bytes.now at to f.at f.why) }
 {
     if bytes[at] < SPACE {
-        return Err(Fault {
-            at: at as u64,
-            why: Reason::BadExtType,
-        });
+        return Err(fault_at(at, Reason::BadExtType));
     }
     if to - at == 1 {
-        return Err(Fault {
-            at: at as u64,
-            why: Reason::CutExtEntry,
-        });
+        return Err(fault_at(at, Reason::CutExtEntry));
     }
     let length = bytes[at + 1];
     if !is_length_of_type(bytes[at], length) {
-        return Err(Fault {
-            at: at as u64 + 1,
-            why: Reason::BadExtLength,
-        });
+        return Err(fault_at(at + 1, Reason::BadExtLength));
     }
     if to - at < length as usize {
-        return Err(Fault {
-            at: at as u64,
-            why: Reason::CutExtEntry,
-        });
+        return Err(fault_at(at, Reason::CutExtEntry));
     }
     Ok(length as usize)
 }

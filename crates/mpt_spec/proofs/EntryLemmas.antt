@@ -1,7 +1,6 @@
 -- Entries that stand end to end: a place has one entry, a range has one list of entries or one fault.
 use Rattle.std.proofs.Common.{◌≡◌, ℕ, ◌+◌, ◌≤◌, ◌<◌, List, [], ◌∷◌, ◌++◌, length, refl, sym, ap, ◌∙◌, subst, inl, inr, arith}
 use Rattle.std.specs.Prelude.{slice_index, ◌⊎◌}
-use Rattle.mpt_base.specs.Bytes.{number_at, part}
 use Rattle.mpt_base.specs.declared.fault.Reason.{Reason}
 use Rattle.mpt_base.specs.declared.fault.Reason.TheVariants as why
 use Rattle.mpt_spec.specs.declared.entry.Processor.{Processor}
