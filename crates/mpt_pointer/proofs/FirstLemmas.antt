@@ -93,8 +93,17 @@ is_some_where_there image at (Some p) some none = (λ e. (p, some), λ there. re
 pub div_ceil-16 : (n : ℕ) → div_ceil n 16 ≡ (n + 15) / 16
 div_ceil-16 n = omega arith
 
+-- a pointer lies in the image
+pub HasPointerAt-inside : (image : List ℕ) (at : ℕ) → HasPointerAt image at → at + 16 ≤ length image
+HasPointerAt-inside image at there =
+    let size : length (part image at 16) ≡ 16 = there.1.size in
+    omega (arith, simp (length-take, length-drop) at size)
+
 -- no pointer stands past the end of the image
 pub none_past_end : (image : List ℕ) (at : ℕ) → length image < at → ¬ HasPointerAt image at
-none_past_end image at past there =
-    let size : length (part image at 16) ≡ 16 = there.1.size in
-    absurd (omega (arith, simp (length-take, length-drop) at size))
+none_past_end image at past there = absurd (omega (arith, HasPointerAt-inside image at there))
+
+-- a first place lies in the image
+pub first_inside : (image : List ℕ) (xs : List ℕ) (answer : Option ℕ) → IfSome answer (IsFirst (HasPointerAt image) xs) → IfSome answer (λ at. at + 16 ≤ length image)
+first_inside image xs None some = tt
+first_inside image xs (Some at) some = HasPointerAt-inside image at some.holds

@@ -104,6 +104,7 @@ fn areas_of_image(image: &[u8]) -> ArrayVec<Area, 2>
 pub fn find(image: &[u8]) -> Option<u64>
     ensures some { IfSome result (IsFirstPointerAt image.now) }
     ensures none { IfNone result (HasNoPointer image.now) }
+    ensures inside { IfSome result (λ at. at + 16 ≤ length image.now) }
     // There is no other first place.
     ensures only { (at : ℕ) → IsFirstPointerAt image.now at → result ≡ Some at }
 {

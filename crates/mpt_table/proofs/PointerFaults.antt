@@ -1,5 +1,10 @@
 -- The faults of the floating pointer from left to right: once a row doesn't stand, no fault is before the next row.
-use Rattle.std.proofs.Common.{◌≡◌, ℕ, ◌+◌, ◌*◌, ◌≤◌, ◌<◌, List, length, refl, arith}
+use Rattle.std.proofs.Common.{◌≡◌, ℕ, ◌+◌, ◌*◌, ◌≤◌, ◌<◌, List, length, sym, ◌∙◌, arith}
+use Rattle.mpt_base.specs.Bytes.{part}
+use Rattle.mpt_spec.specs.declared.pointer.Pointer.{Pointer}
+use Rattle.mpt_spec.specs.Pointer.{IsFloatingPointer}
+use Rattle.mpt_spec.proofs.CallerLemmas.{IsFloatingPointer-fields}
+use Rattle.mpt_table.specs.Header.{HasRightPointer}
 use Rattle.mpt_base.specs.declared.fault.Reason.{Reason}
 use Rattle.mpt_base.specs.declared.fault.Reason.TheVariants as why
 use Rattle.std.specs.Prelude.{slice_index}
@@ -45,9 +50,14 @@ none_before_default image at some inside revision j why.BadRevision h = absurd (
 none_before_default image at some inside revision j why.BadDefault h = omega arith
 none_before_default image at some inside revision j _ h = absurd h
 
-pub no_pointer_fault : (image : List ℕ) (at : ℕ) → HasBody image at → HasHeaderInside image at → slice_index image (at + 9) ≡ 4 → default_at image at ≤ 7 → HasNoPointerFault image at
-no_pointer_fault image at some inside revision low j why.NoTable h = some h.1 h.2
-no_pointer_fault image at some inside revision low j why.TableOutside h = absurd (omega (arith, inside h.1))
-no_pointer_fault image at some inside revision low j why.BadRevision h = h.1 revision
-no_pointer_fault image at some inside revision low j why.BadDefault h = absurd (omega arith)
-no_pointer_fault image at some inside revision low j _ h = h
+-- where the floating pointer is right, no fault of it stands
+pub HasRightPointer-no_fault : (p : Pointer) (image : List ℕ) (at : ℕ) → IsFloatingPointer p (part image at 16) → HasRightPointer p (length image) → HasNoPointerFault image at
+HasRightPointer-no_fault p image at there right j why.NoTable h =
+    let fields = IsFloatingPointer-fields p image at there in right.body (fields.default ∙ h.1) (fields.address ∙ h.2)
+HasRightPointer-no_fault p image at there right j why.TableOutside h =
+    let fields = IsFloatingPointer-fields p image at there in absurd (omega (arith, right.inside (fields.default ∙ h.1), fields.address, h.3))
+HasRightPointer-no_fault p image at there right j why.BadRevision h =
+    let fields = IsFloatingPointer-fields p image at there in h.1 (sym fields.revision ∙ right.revision)
+HasRightPointer-no_fault p image at there right j why.BadDefault h =
+    let fields = IsFloatingPointer-fields p image at there in absurd (omega (arith, right.low, fields.default, h.1))
+HasRightPointer-no_fault p image at there right j _ h = h

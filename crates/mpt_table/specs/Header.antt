@@ -1,9 +1,17 @@
 -- What the reader has found right so far. Only private functions of the crate cite it.
-use Rattle.std.specs.Prelude.{◌≡◌, ℕ, ◌+◌, List, length, slice_index, codes}
+use Rattle.std.specs.Prelude.{◌≡◌, ◌≢◌, ℕ, ◌+◌, ◌≤◌, List, length, slice_index, codes}
 use Rattle.mpt_base.specs.Bytes.{part}
+use Rattle.mpt_spec.specs.declared.pointer.Pointer.{Pointer}
 use Rattle.mpt_spec.specs.declared.entry.Base.{Base}
 use Rattle.mpt_spec.specs.Entries.{AreBaseEntries}
-use Rattle.mpt_spec.specs.Table.{count_at, base_end, HasBaseInside, HasExtInside, HasChecksum, HasExtChecksum}
+use Rattle.mpt_spec.specs.Table.{count_at, base_end, HasBaseInside, HasExtInside, HasChecksum, HasExtChecksum, default_number}
+
+-- the floating pointer is right in an image of this size: it names a default configuration from 1 to 7, or a table whose header lies inside
+pub record HasRightPointer (p : Pointer) (size : ℕ) : Type 0 where
+  pub body : default_number p ≡ 0 → p.address ≢ 0
+  pub inside : default_number p ≡ 0 → p.address + 44 ≤ size
+  pub revision : p.revision ≡ 4
+  pub low : default_number p ≤ 7
 
 -- the header is right up to the checksum: signature, base length, revision and the sum of the base table
 pub record HasRightHeader (image : List ℕ) (at : ℕ) : Type 0 where

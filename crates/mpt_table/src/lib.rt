@@ -4,5 +4,9 @@
 
 mod header;
 mod pointer_fault;
+mod reading;
+mod refusal;
 
 pub use mpt_spec::{Body, Pointer, Table, Tables};
+pub use reading::read;
+pub use refusal::Refusal;

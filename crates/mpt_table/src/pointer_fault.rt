@@ -5,7 +5,8 @@ ghost use Rattle.std.specs.Prelude.{◌≡◌, ◌≢◌, ◌+◌, ◌≤◌, �
 ghost use Rattle.mpt_base.specs.Bytes.{part};
 ghost use Rattle.mpt_spec.specs.Pointer.{IsFloatingPointer};
 ghost use Rattle.mpt_spec.specs.Table.{default_number};
-ghost use Rattle.mpt_spec.specs.Faults.{HasPointerFaultAt, HasNoPointerFault};
+ghost use Rattle.mpt_spec.specs.Faults.{HasPointerFaultAt};
+ghost use Rattle.mpt_table.specs.Header.{HasRightPointer};
 ghost use Rattle.mpt_table.specs.Least.{IsLeast};
 
 use crate::header::{HEADER_LENGTH, REVISION, fault_at};
@@ -36,7 +37,7 @@ pub(crate) fn pointer_fault(image: &[u8], at: usize, pointer: &Pointer) -> Optio
     requires inside { at + 16 ≤ length image.now }
     requires there { IsFloatingPointer pointer.now (part image.now at 16) }
     ensures some { IfSome result (λ f. IsLeast (HasPointerFaultAt image.now at) f.at f.why) }
-    ensures none { IfNone result (HasNoPointerFault image.now at) }
+    ensures none { IfNone result (HasRightPointer pointer.now (length image.now)) }
 {
     if !has_body(pointer) {
         return Some(fault_at(at + 4, Reason::NoTable));

@@ -1,6 +1,6 @@
 use Rattle.std.proofs.Common.{refl, sym, ◌∙◌, arith}
 use Rattle.mpt_spec.proofs.CallerLemmas.{IsFloatingPointer-fields}
-use Rattle.mpt_table.proofs.PointerFaults.{HasBody, HasHeaderInside, none_before_no_table, none_before_table_outside, none_before_revision, none_before_default, no_pointer_fault}
+use Rattle.mpt_table.proofs.PointerFaults.{HasBody, HasHeaderInside, none_before_no_table, none_before_table_outside, none_before_revision, none_before_default}
 use Rattle.mpt_table.proofs.pointer_fault.pointer_fault.Goals as goal
 
 pub returns-then-not-has_body-clause-some : goal.returns-then-not-has_body-clause-some
@@ -40,10 +40,3 @@ returns-then-pointer-gt-LAST_DEFAULT-clause-some c =
       stands = (refl, omega (arith, fields.default, c.if-pointer-gt-LAST_DEFAULT.true));
       least = none_before_default c.args.image.now c.args.at body inside (sym fields.revision ∙ c.if-pointer-ne-REVISION.false);
     })
-
-pub returns-clause-none : goal.returns-clause-none
-returns-clause-none c =
-    let fields = IsFloatingPointer-fields c.args.pointer.now c.args.image.now c.args.at c.requires.there in
-    let body : HasBody c.args.image.now c.args.at = λ d a. c.if-not-has_body.ensures (fields.default ∙ d) (fields.address ∙ a) in
-    let inside : HasHeaderInside c.args.image.now c.args.at = λ d. rw (← fields.address) (c.if-not-has_header_inside.ensures (fields.default ∙ d)) in
-    no_pointer_fault c.args.image.now c.args.at body inside (sym fields.revision ∙ c.if-pointer-ne-REVISION.false) (omega (arith, fields.default, c.if-pointer-gt-LAST_DEFAULT.false))
