@@ -14,11 +14,11 @@ ghost use Rattle.mpt_spec.specs.Pointer.{IsFloatingPointer};
 ghost use Rattle.mpt_spec.specs.Search.{places_in, IsFirstPointerAt, HasNoPointer};
 ghost use Rattle.mpt_spec.specs.Entries.{IsBaseEntryAt};
 ghost use Rattle.mpt_spec.specs.Extended.{IsExtEntryAt};
-ghost use Rattle.mpt_spec.specs.Canonical.{IsLawfulExt};
+ghost use Rattle.mpt_spec.specs.Canonical.{IsLawfulExt, IsWellFormedTable};
 ghost use Rattle.mpt_spec.specs.Table.{IsConfigurationTable, Describes};
 ghost use Rattle.mpt_spec.specs.Faults.{HasFaultAt, IsFirstFault};
-ghost use Rattle.mpt_spec.specs.Image.{base_bytes, ext_bytes, pointer_bytes};
-ghost use Rattle.mpt_spec.specs.Values.{IsBaseValue, IsExtValue, IsPointerValue};
+ghost use Rattle.mpt_spec.specs.Image.{base_bytes, ext_bytes, table_bytes, pointer_bytes};
+ghost use Rattle.mpt_spec.specs.Values.{IsBaseValue, IsExtValue, IsPointerValue, IsTableValue};
 ghost use Rattle.mpt_spec.specs.Laws.{IsPlaceOf};
 
 /// The places of an area are the multiples of 16 in it that have 16 bytes before its end.
@@ -41,6 +41,12 @@ pub fn pointer_of_bytes_is_one()
 pub fn written_entry_is_there()
     ensures base { (e : Base) (before after : List ℕ) (at : ℕ) → IsBaseValue e → length before ≡ at → IsBaseEntryAt e (before ++ (base_bytes e ++ after)) at }
     ensures ext { (e : Ext) (before after : List ℕ) (at : ℕ) → IsExtValue e → IsLawfulExt e → length before ≡ at → IsExtEntryAt e (before ++ (ext_bytes e ++ after)) at }
+{}
+
+/// The bytes that are written for a table of revision 4, whose parts have lengths that 16 bits can say,
+/// are that table, wherever they stand.
+pub fn written_table_is_there()
+    ensures { (t : Table) (before after : List ℕ) (at : ℕ) → IsTableValue t → IsWellFormedTable t → length before ≡ at → IsConfigurationTable t (before ++ (table_bytes t ++ after)) at }
 {}
 
 /// The bytes that are written for a floating pointer are that floating pointer.
