@@ -1,5 +1,5 @@
 -- What the crates above cite: a part of a list by its members, and a floating pointer's fields in the image.
-use Rattle.std.proofs.Common.{◌≡◌, ℕ, zero, suc, ◌+◌, ◌*◌, ◌<◌, ◌≤◌, List, get_or, take, drop, sym, refl, ap, ◌∙◌, arith}
+use Rattle.std.proofs.Common.{◌≡◌, ℕ, zero, suc, ◌+◌, ◌<◌, ◌≤◌, List, drop, refl, ap, ◌∙◌, arith}
 use Rattle.std.specs.Prelude.{slice_index}
 use Rattle.std.proofs.lemmas.List.{get_or-take, get_or-drop}
 use Rattle.mpt_base.specs.Bytes.{part, number_at}
@@ -32,6 +32,6 @@ pub IsFloatingPointer-fields : (p : Pointer) (image : List ℕ) (at : ℕ) → I
 IsFloatingPointer-fields p image at h = record {
   address = h.address ∙ number_at-part 4 image at 16 4 (omega arith);
   default =
-    ap (λ fs. slice_index fs 0) h.features ∙ slice_index-part (part image at 16) 11 5 0 (omega arith) ∙ slice_index-part image at 16 11 (omega arith);
+      ap (λ fs. slice_index fs 0) h.features ∙ slice_index-part (part image at 16) 11 5 0 (omega arith) ∙ slice_index-part image at 16 11 (omega arith);
   revision = h.revision ∙ slice_index-part image at 16 9 (omega arith);
 }

@@ -1,7 +1,6 @@
 -- The worked examples, by computing them.
-use Rattle.std.proofs.Common.{◌≡◌, ◌≢◌, ℕ, ◌+◌, ◌≤◌, ◌<◌, List, [], ◌∷◌, ◌++◌, length, sym, refl, ap, ◌∙◌, subst, inl, inr, arith}
+use Rattle.std.proofs.Common.{◌≡◌, ℕ, List, [], ◌∷◌, ◌++◌, refl, inr, arith}
 use Rattle.mpt_base.specs.Bytes.{part}
-use Rattle.mpt_spec.specs.declared.tables.Table.{Table}
 use Rattle.mpt_spec.specs.Pointer.{IsFloatingPointer}
 use Rattle.mpt_spec.specs.Search.{HasPointerAt, IsFirstPointerAt, search_places}
 use Rattle.mpt_spec.specs.Table.{IsConfigurationTable, Describes}
@@ -45,16 +44,20 @@ Describes-extended = record {
   tables_there = record {
     pointer = small_pointer_there extended_bytes;
     revision = refl;
-    body = (refl, omega arith, record {
-      inside = record { base = record { header = omega arith; inside = omega arith }; inside = omega arith };
-      header = record { signature = refl; revision = refl; oem = refl; product = refl; oem_table = refl; oem_size = refl; local_address = refl; reserved = refl };
-      revision = refl;
-      checksum = refl;
-      count = refl;
-      base = (record { type_byte = refl; apic = refl; version = refl; flags = refl; signature = refl; features = refl; reserved = refl }, refl);
-      ext_checksum = refl;
-      ext = (record { type_byte = refl; above = omega arith; length_byte = refl; rest = refl }, refl);
-    });
+    body = (
+      refl,
+      omega arith,
+      record {
+        inside = record { base = record { header = omega arith; inside = omega arith }; inside = omega arith };
+        header = record { signature = refl; revision = refl; oem = refl; product = refl; oem_table = refl; oem_size = refl; local_address = refl; reserved = refl };
+        revision = refl;
+        checksum = refl;
+        count = refl;
+        base = (record { type_byte = refl; apic = refl; version = refl; flags = refl; signature = refl; features = refl; reserved = refl }, refl);
+        ext_checksum = refl;
+        ext = (record { type_byte = refl; above = omega arith; length_byte = refl; rest = refl }, refl);
+      },
+    );
   };
 }
 
@@ -87,16 +90,20 @@ Describes-second_place = record {
   tables_there = record {
     pointer = second_pointer_there;
     revision = refl;
-    body = (refl, omega arith, record {
-      inside = record { base = record { header = omega arith; inside = omega arith }; inside = omega arith };
-      header = record { signature = refl; revision = refl; oem = refl; product = refl; oem_table = refl; oem_size = refl; local_address = refl; reserved = refl };
-      revision = refl;
-      checksum = refl;
-      count = refl;
-      base = (record { type_byte = refl; apic = refl; version = refl; flags = refl; signature = refl; features = refl; reserved = refl }, refl);
-      ext_checksum = refl;
-      ext = refl;
-    });
+    body = (
+      refl,
+      omega arith,
+      record {
+        inside = record { base = record { header = omega arith; inside = omega arith }; inside = omega arith };
+        header = record { signature = refl; revision = refl; oem = refl; product = refl; oem_table = refl; oem_size = refl; local_address = refl; reserved = refl };
+        revision = refl;
+        checksum = refl;
+        count = refl;
+        base = (record { type_byte = refl; apic = refl; version = refl; flags = refl; signature = refl; features = refl; reserved = refl }, refl);
+        ext_checksum = refl;
+        ext = refl;
+      },
+    );
   };
 }
 

@@ -1,18 +1,15 @@
 -- The worked faults: each stands, and no other is before it.
-use Rattle.std.proofs.Common.{◌≡◌, ◌≢◌, ℕ, ◌+◌, ◌≤◌, ◌<◌, List, [], ◌∷◌, ◌++◌, length, sym, refl, ap, ◌∙◌, subst, inl, inr, arith}
+use Rattle.std.proofs.Common.{◌≡◌, ℕ, ◌+◌, ◌≤◌, List, [], ◌∷◌, ◌++◌, length, refl, inl, arith}
 use Rattle.mpt_base.specs.declared.fault.Reason.{Reason}
 use Rattle.mpt_base.specs.declared.fault.Reason.TheVariants as why
-use Rattle.mpt_spec.specs.declared.pointer.Pointer.{Pointer}
 use Rattle.mpt_spec.specs.declared.entry.Base.{Base}
 use Rattle.mpt_base.specs.Bytes.{part}
 use Rattle.mpt_spec.specs.Search.{search_places, IsFirstPointerAt}
 use Rattle.mpt_spec.specs.Pointer.{IsFloatingPointer}
 use Rattle.mpt_spec.specs.Entries.{AreBaseEntries, IsUnknownEntryIn, IsCutEntryIn}
-use Rattle.mpt_spec.specs.Extended.{IsLengthOfExtType, IsBadExtTypeIn, IsCutExtEntryIn}
-use Rattle.mpt_spec.specs.Table.{base_end, ext_end}
+use Rattle.mpt_spec.specs.Extended.{IsBadExtTypeIn, IsCutExtEntryIn}
 use Rattle.mpt_spec.specs.Faults.{HasTableFaultAt, HasPointerFaultAt, HasNoPointerFault, IsFirstFault, fault_order}
 use Rattle.mpt_spec.specs.Examples.{header_with, entry_with, processor, small_image_with, default_image, default_tables}
-use Rattle.mpt_spec.proofs.EntryLemmas.{AreBaseEntries-unique}
 use Rattle.mpt_spec.proofs.FirstFaultLemmas.{no_pointer_fault, IsFirstFault-of_table, IsFirstFault-of_pointer, HasTableFaultAt-offset, HasSoundHeader, IsBaseFaultIn-first, IsExtFaultIn-first}
 use Rattle.mpt_spec.proofs.ExampleLemmas.{small_pointer_first}
 
@@ -151,7 +148,7 @@ pub IsFirstFault-bad_default : IsFirstFault (default_image 8 0x98) 0x50B why.Bad
 unfolding search_places
 IsFirstFault-bad_default =
     let there : IsFloatingPointer (default_tables 8).pointer (part (default_image 8 0x98) 0x500 16) =
-      record { size = refl; signature = refl; address = refl; paragraphs = refl; revision = refl; features = refl; checksum = refl } in
+    record { size = refl; signature = refl; address = refl; paragraphs = refl; revision = refl; features = refl; checksum = refl } in
     let first : IsFirstPointerAt (default_image 8 0x98) 0x500 = record { before = []; after = []; split = refl; none_before = tt; holds = ((default_tables 8).pointer, there) } in
     IsFirstFault-of_pointer (default_image 8 0x98) 0x500 0x50B why.BadDefault first (refl, omega arith) bad_default_least
 
@@ -166,6 +163,6 @@ pub IsFirstFault-no_table : IsFirstFault (default_image 0 0xA0) 0x504 why.NoTabl
 unfolding search_places
 IsFirstFault-no_table =
     let there : IsFloatingPointer (default_tables 0).pointer (part (default_image 0 0xA0) 0x500 16) =
-      record { size = refl; signature = refl; address = refl; paragraphs = refl; revision = refl; features = refl; checksum = refl } in
+    record { size = refl; signature = refl; address = refl; paragraphs = refl; revision = refl; features = refl; checksum = refl } in
     let first : IsFirstPointerAt (default_image 0 0xA0) 0x500 = record { before = []; after = []; split = refl; none_before = tt; holds = ((default_tables 0).pointer, there) } in
     IsFirstFault-of_pointer (default_image 0 0xA0) 0x500 0x504 why.NoTable first (refl, refl, refl) no_table_least

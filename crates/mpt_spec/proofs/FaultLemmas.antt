@@ -1,7 +1,5 @@
 -- There is one first fault at most, and none where an image describes tables.
-use Rattle.std.proofs.Common.{◌≡◌, ◌≢◌, ℕ, ◌+◌, ◌*◌, ◌≤◌, ◌<◌, List, [], ◌∷◌, length, get_or, sym, refl, ap, ◌∙◌, subst, inl, inr, arith}
-use Rattle.std.specs.Prelude.{slice_index}
-use Rattle.mpt_base.specs.Bytes.{part}
+use Rattle.std.proofs.Common.{◌≡◌, ℕ, ◌+◌, ◌*◌, ◌≤◌, ◌<◌, List, [], ◌∷◌, length, get_or, sym, refl, ap, ◌∙◌, subst, inl, inr, arith}
 use Rattle.mpt_base.specs.Reason.{reason_number}
 use Rattle.mpt_base.specs.declared.fault.Reason.{Reason}
 use Rattle.mpt_base.specs.declared.fault.Reason.TheVariants as why
@@ -11,7 +9,7 @@ use Rattle.mpt_spec.specs.declared.tables.Body.{Body}
 use Rattle.mpt_spec.specs.declared.tables.Body.TheVariants as body
 use Rattle.mpt_spec.specs.declared.tables.Tables.{Tables}
 use Rattle.mpt_spec.specs.Search.{search_places, HasPointerAt}
-use Rattle.mpt_spec.specs.Table.{base_end, ext_end, count_at, IsConfigurationTable, IsBodyOf, HasTables, Describes}
+use Rattle.mpt_spec.specs.Table.{base_end, ext_end, IsConfigurationTable, IsBodyOf, Describes}
 use Rattle.mpt_spec.specs.Faults.{address_at, default_at, HasPointerFaultAt, HasTableFaultAt, HasFaultAt, fault_order, IsFirstFault}
 use Rattle.mpt_spec.proofs.SearchLemmas.{IsFirst-unique}
 use Rattle.mpt_spec.proofs.CallerLemmas.{HasPointerFieldsAt, IsFloatingPointer-fields}

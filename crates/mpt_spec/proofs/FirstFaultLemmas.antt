@@ -1,5 +1,5 @@
 -- How a fault is shown to be the first: no fault of the pointer stands, and each row of the table before it is refuted.
-use Rattle.std.proofs.Common.{◌≡◌, ◌≢◌, ℕ, ◌+◌, ◌*◌, ◌≤◌, ◌<◌, ◌⊎◌, List, [], ◌∷◌, length, sym, refl, ap, ◌∙◌, subst, inl, inr, arith}
+use Rattle.std.proofs.Common.{◌≡◌, ◌≢◌, ℕ, ◌+◌, ◌≤◌, ◌<◌, ◌⊎◌, List, length, ap, ◌∙◌, inl, inr, arith}
 use Rattle.std.specs.Prelude.{slice_index, codes}
 use Rattle.mpt_base.specs.Bytes.{part}
 use Rattle.mpt_base.specs.Reason.{reason_number}
@@ -9,7 +9,7 @@ use Rattle.mpt_spec.specs.Search.{IsFirstPointerAt}
 use Rattle.mpt_spec.specs.declared.entry.Base.{Base}
 use Rattle.mpt_spec.specs.Entries.{AreBaseEntries, IsBaseFaultIn}
 use Rattle.mpt_spec.specs.Extended.{IsExtFaultIn}
-use Rattle.mpt_spec.specs.Table.{base_end, ext_end, count_at, HasBaseInside, HasExtInside, HasChecksum, HasExtChecksum}
+use Rattle.mpt_spec.specs.Table.{base_end, ext_end, count_at, HasExtInside, HasChecksum, HasExtChecksum}
 use Rattle.mpt_spec.specs.Faults.{address_at, default_at, HasBadCountAt, HasPointerFaultAt, HasTableFaultAt, HasNoPointerFault, HasFaultAt, fault_order, IsFirstFault}
 use Rattle.mpt_spec.proofs.EntryLemmas.{AreBaseEntries-unique, IsBaseFaultIn-no_entries, IsBaseFaultIn-unique, IsBaseFaultIn-bounds, IsExtFaultIn-unique, IsExtFaultIn-bounds}
 use Rattle.mpt_spec.proofs.FaultLemmas.{reason_number-small}
@@ -31,9 +31,9 @@ IsFirstFault-of_table image place k w first none listed stands least = record {
   least = λ j v h. after j v h;
 }
   where
-  after : (j : ℕ) (v : Reason) → HasFaultAt image place j v → fault_order k w ≤ fault_order j v
-  after j v (inl h) = absurd (none j v h)
-  after j v (inr h) = least j v h.2
+    after : (j : ℕ) (v : Reason) → HasFaultAt image place j v → fault_order k w ≤ fault_order j v
+    after j v (inl h) = absurd (none j v h)
+    after j v (inr h) = least j v h.2
 
 -- the offset from the table of what is refused
 abbrev pub row_offset : Reason → ℕ
@@ -110,29 +110,29 @@ pub IsBaseFaultIn-first : (image : List ℕ) (at k : ℕ) (w : Reason) → HasSo
     → (j : ℕ) (v : Reason) → HasTableFaultAt image at j v → fault_order k w ≤ fault_order j v
 IsBaseFaultIn-first image at k w s f j v h = among (HasSoundHeader-rest image at j v s h)
   where
-  among : HasBadCountAt image at j ⊎ (IsBaseFaultIn image (at + 44) (base_end image at) j v ⊎ IsExtFaultIn image (base_end image at) (ext_end image at) j v) → fault_order k w ≤ fault_order j v
-  among (inl c) = absurd (IsBaseFaultIn-no_entries c.2 image (at + 44) (base_end image at) k w f c.3)
-  among (inr (inl b)) = order_of_same k j w v (IsBaseFaultIn-unique image (at + 44) (base_end image at) k j w v f b)
-  among (inr (inr x)) =
-      let low : k < base_end image at = (IsBaseFaultIn-bounds image (at + 44) (base_end image at) k w f).1 in
-      let high : base_end image at ≤ j = (IsExtFaultIn-bounds image (base_end image at) (ext_end image at) j v x).0 in
-      order_of_later k j w v (omega arith)
+    among : HasBadCountAt image at j ⊎ (IsBaseFaultIn image (at + 44) (base_end image at) j v ⊎ IsExtFaultIn image (base_end image at) (ext_end image at) j v) → fault_order k w ≤ fault_order j v
+    among (inl c) = absurd (IsBaseFaultIn-no_entries c.2 image (at + 44) (base_end image at) k w f c.3)
+    among (inr (inl b)) = order_of_same k j w v (IsBaseFaultIn-unique image (at + 44) (base_end image at) k j w v f b)
+    among (inr (inr x)) =
+        let low : k < base_end image at = (IsBaseFaultIn-bounds image (at + 44) (base_end image at) k w f).1 in
+        let high : base_end image at ≤ j = (IsExtFaultIn-bounds image (base_end image at) (ext_end image at) j v x).0 in
+        order_of_later k j w v (omega arith)
 
 -- behind a sound header and as many base entries as it counts the fault of the extended entries is the first of the table
 pub IsExtFaultIn-first : (image : List ℕ) (at k : ℕ) (w : Reason) (es : List Base) → HasSoundHeader image at → AreBaseEntries es image (at + 44) (base_end image at) → length es ≡ count_at image at
     → IsExtFaultIn image (base_end image at) (ext_end image at) k w → (j : ℕ) (v : Reason) → HasTableFaultAt image at j v → fault_order k w ≤ fault_order j v
 IsExtFaultIn-first image at k w es s tiles count f j v h = among (HasSoundHeader-rest image at j v s h)
   where
-  among : HasBadCountAt image at j ⊎ (IsBaseFaultIn image (at + 44) (base_end image at) j v ⊎ IsExtFaultIn image (base_end image at) (ext_end image at) j v) → fault_order k w ≤ fault_order j v
-  among (inl c) = absurd (c.4 (ap length (AreBaseEntries-unique c.2 es image (at + 44) (base_end image at) c.3 tiles) ∙ count))
-  among (inr (inl b)) = absurd (IsBaseFaultIn-no_entries es image (at + 44) (base_end image at) j v b tiles)
-  among (inr (inr x)) = order_of_same k j w v (IsExtFaultIn-unique image (base_end image at) (ext_end image at) k j w v f x)
+    among : HasBadCountAt image at j ⊎ (IsBaseFaultIn image (at + 44) (base_end image at) j v ⊎ IsExtFaultIn image (base_end image at) (ext_end image at) j v) → fault_order k w ≤ fault_order j v
+    among (inl c) = absurd (c.4 (ap length (AreBaseEntries-unique c.2 es image (at + 44) (base_end image at) c.3 tiles) ∙ count))
+    among (inr (inl b)) = absurd (IsBaseFaultIn-no_entries es image (at + 44) (base_end image at) j v b tiles)
+    among (inr (inr x)) = order_of_same k j w v (IsExtFaultIn-unique image (base_end image at) (ext_end image at) k j w v f x)
 
 -- a fault of the pointer before which no other of the pointer stands is the first
 pub IsFirstFault-of_pointer : (image : List ℕ) (place k : ℕ) (w : Reason) → IsFirstPointerAt image place → HasPointerFaultAt image place k w
     → ((j : ℕ) (v : Reason) → HasPointerFaultAt image place j v → fault_order k w ≤ fault_order j v) → IsFirstFault image k w
-IsFirstFault-of_pointer image place k w first stands least = record { at = place; first = first; stands = inl stands; least = λ j v h. among j v h; }
+IsFirstFault-of_pointer image place k w first stands least = record { at = place; first = first; stands = inl stands; least = λ j v h. among j v h }
   where
-  among : (j : ℕ) (v : Reason) → HasFaultAt image place j v → fault_order k w ≤ fault_order j v
-  among j v (inl h) = least j v h
-  among j v (inr h) = absurd (h.0 k w stands)
+    among : (j : ℕ) (v : Reason) → HasFaultAt image place j v → fault_order k w ≤ fault_order j v
+    among j v (inl h) = least j v h
+    among j v (inr h) = absurd (h.0 k w stands)

@@ -8,3 +8,4 @@ pub mod FaultLemmas
 pub mod FirstFaultLemmas
 pub mod ExampleLemmas
 pub mod FaultExamples
+pub mod WrittenTableLemmas

@@ -1,7 +1,7 @@
 -- What follows from being the first, and the places of an area.
-use Rattle.std.proofs.Common.{◌≡◌, ℕ, ◌+◌, ◌-◌, ◌*◌, ◌/◌, ◌%◌, ◌<◌, ◌≤◌, List, [], ◌∷◌, ◌++◌, sym, refl, ap, ◌∙◌, subst, arith}
+use Rattle.std.proofs.Common.{◌≡◌, ℕ, ◌+◌, ◌-◌, ◌*◌, ◌/◌, ◌<◌, List, [], ◌∷◌, ◌++◌, sym, refl, ◌∙◌, subst, arith}
 use Rattle.std.specs.Prelude.{◌↔◌}
-use Rattle.std.specs.List.{AllByRecursion, Contains, range_with_len}
+use Rattle.std.specs.List.{AllByRecursion, Contains}
 use Rattle.std.proofs.lemmas.List.FromFn.{length-map-range_with_len, get_or-map-range_with_len}
 use Rattle.mpt_spec.specs.declared.pointer.Area.{Area}
 use Rattle.mpt_spec.specs.Search.{IsFirst, HoldsAtNone, places_in}
@@ -38,7 +38,7 @@ places_are area place h =
     let n : ℕ = area.to / 16 - a in
     let within : h.0 < n = rw (length-map-range_with_len (λ k. 16 * k) a n) at h.1 in
     let value : 16 * (a + h.0) ≡ place = sym (get_or-map-range_with_len (λ k. 16 * k) a n h.0 (a + h.0) place within refl) ∙ h.2 in
-    record { boundary = omega arith; after_start = omega arith; whole = omega arith; }
+    record { boundary = omega arith; after_start = omega arith; whole = omega arith }
 
 are_places : (area : Area) (place : ℕ) → IsPlaceOf area place → Contains (places_in area) place
 are_places area place h =

@@ -1,7 +1,7 @@
 -- The bytes that are written for an entry or a floating pointer are that entry or that pointer, wherever they stand.
-use Rattle.std.proofs.Common.{◌≡◌, ℕ, zero, suc, ◌+◌, ◌-◌, ◌*◌, ◌%◌, ◌^◌, ◌<◌, ◌≤◌, List, [], ◌∷◌, ◌++◌, length, get_or, take, drop, sum, sym, refl, ap, ◌∙◌, subst, arith}
+use Rattle.std.proofs.Common.{◌≡◌, ℕ, ◌+◌, List, [], ◌∷◌, ◌++◌, length, sum, sym, refl, ◌∙◌, subst, arith}
 use Rattle.std.specs.Prelude.{slice_index, codes}
-use Rattle.std.specs.Int.{to_le_bytes, w16, w32, w64}
+use Rattle.std.specs.Int.{to_le_bytes, w32}
 use Rattle.mpt_base.specs.Bytes.{part, number_at}
 use Rattle.mpt_spec.specs.declared.pointer.Pointer.{Pointer}
 use Rattle.mpt_spec.specs.declared.entry.Processor.{Processor}
@@ -21,7 +21,7 @@ use Rattle.mpt_spec.specs.Entries.{IsProcessorAt, IsBusAt, IsIoApicAt, IsInterru
 use Rattle.mpt_spec.specs.Extended.{IsSpaceAt, IsHierarchyAt, IsModifierAt, IsOpaqueAt, IsExtEntryAt}
 use Rattle.mpt_spec.specs.Canonical.{IsLawfulExt}
 use Rattle.mpt_spec.specs.Image.{base_bytes, ext_bytes, interrupt_bytes, pointer_with, pointer_bytes, checksum_of}
-use Rattle.mpt_spec.specs.Values.{AreBytes, IsProcessorValue, IsBusValue, IsIoApicValue, IsInterruptValue, IsBaseValue, IsSpaceValue, IsHierarchyValue, IsModifierValue, IsExtValue, IsPointerValue}
+use Rattle.mpt_spec.specs.Values.{IsProcessorValue, IsBusValue, IsIoApicValue, IsInterruptValue, IsBaseValue, IsSpaceValue, IsHierarchyValue, IsModifierValue, IsExtValue, IsPointerValue}
 use Rattle.mpt_spec.proofs.ByteLemmas.{slice_index-append, number_at-append, part-append, take-append_whole, take_whole, sum-cell, sealed, number_at-to_le_bytes_2, number_at-to_le_bytes_4, number_at-to_le_bytes_8}
 
 module _ (before after : List ℕ) where
@@ -56,7 +56,7 @@ module _ (before after : List ℕ) where
   bus-written : (e : Bus) → IsBusValue e → IsBusAt e (before ++ (base_bytes (base.Bus e) ++ after)) (length before)
   bus-written e v =
       let bytes : List ℕ = base_bytes (base.Bus e) ++ after in
-      record { type_byte = first bytes; id = byte bytes 1; name = field bytes 2 6 e.name (take-append_whole 6 e.name after v.name.size); }
+      record { type_byte = first bytes; id = byte bytes 1; name = field bytes 2 6 e.name (take-append_whole 6 e.name after v.name.size) }
 
   io_apic-written : (e : IoApic) → IsIoApicValue e → IsIoApicAt e (before ++ (base_bytes (base.IoApic e) ++ after)) (length before)
   io_apic-written e v =

@@ -1,7 +1,7 @@
 -- The values of the types: in a definition a field is any number, so a law over every entry has as its premise that its
 -- numbers fit their fields, a byte below 256 and so on (MultiProcessor Specification 1.4, figures 4-2 to 4-11).
 --     AreBytes bytes n     n bytes
---     IsBaseValue e, IsExtValue e, IsPointerValue p   the fields fit
+--     IsBaseValue e, IsExtValue e, IsPointerValue p, IsTableValue t   the fields fit
 use Rattle.std.specs.Prelude.{◌≡◌, ℕ, ◌^◌, ◌<◌, List, length}
 use Rattle.std.specs.List.{AllByRecursion}
 use Rattle.mpt_spec.specs.declared.pointer.Pointer.{Pointer}
@@ -17,6 +17,7 @@ use Rattle.mpt_spec.specs.declared.entry.Modifier.{Modifier}
 use Rattle.mpt_spec.specs.declared.entry.Opaque.{Opaque}
 use Rattle.mpt_spec.specs.declared.entry.Ext.{Ext}
 use Rattle.mpt_spec.specs.declared.entry.Ext.TheVariants as ext
+use Rattle.mpt_spec.specs.declared.tables.Table.{Table}
 
 -- a list of n bytes
 pub record AreBytes (bytes : List ℕ) (n : ℕ) : Type 0 where
@@ -98,3 +99,15 @@ pub record IsPointerValue (p : Pointer) : Type 0 where
   pub address : p.address < 2 ^ 32
   pub revision : p.revision < 256
   pub features : AreBytes p.features 5
+
+-- a configuration table
+pub record IsTableValue (t : Table) : Type 0 where
+  pub revision : t.revision < 256
+  pub oem : AreBytes t.oem 8
+  pub product : AreBytes t.product 12
+  pub oem_table : t.oem_table < 2 ^ 32
+  pub oem_size : t.oem_size < 2 ^ 16
+  pub local_address : t.local_address < 2 ^ 32
+  pub reserved : t.reserved < 256
+  pub base : AllByRecursion IsBaseValue t.base
+  pub ext : AllByRecursion IsExtValue t.ext

@@ -9,9 +9,7 @@ mod pointer;
 mod sequence;
 mod tables;
 
-pub use entry::{
-    Base, Bus, Ext, Hierarchy, IntEntry, IoApic, Modifier, Opaque, Processor, Space,
-};
+pub use entry::{Base, Bus, Ext, Hierarchy, IntEntry, IoApic, Modifier, Opaque, Processor, Space};
 pub use pointer::{Area, Pointer};
 pub use sequence::Sequence;
 pub use tables::{Body, Table, Tables};
