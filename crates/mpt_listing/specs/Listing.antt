@@ -21,12 +21,12 @@ abbrev pub hex_digit : ℕ → ℕ
 hex_digit n = if nat_lt n 10 then 48 + n else 55 + n
 
 -- the lowest k hexadecimal digits of a number, the highest of them first
-abbrev pub hex : ℕ → ℕ → List ℕ
+unfoldable pub hex : ℕ → ℕ → List ℕ
 hex zero n = []
 hex (suc k) n = hex k (n / 16) ++ hex_digit (n % 16) ∷ []
 
 -- two digits for each byte
-abbrev pub hex_bytes : List ℕ → List ℕ
+unfoldable pub hex_bytes : List ℕ → List ℕ
 hex_bytes bytes = flat_map (hex 2) bytes
 
 -- a byte stands for itself in quotes: from 20h to 7Eh, but neither `"` nor `\`
@@ -38,30 +38,30 @@ abbrev pub quoted_byte : ℕ → List ℕ
 quoted_byte b = if is_plain_byte b then (b ∷ []) else (92 ∷ 120 ∷ hex 2 b)
 
 -- bytes in double quotes
-abbrev pub quoted : List ℕ → List ℕ
+unfoldable pub quoted : List ℕ → List ℕ
 quoted bytes = 34 ∷ flat_map quoted_byte bytes ++ 34 ∷ []
 
 -- a line ends with one line feed
 abbrev pub line : List ℕ → List ℕ
 line text = text ++ 10 ∷ []
 
-abbrev pub pointer_line : Tables → List ℕ
+unfoldable pub pointer_line : Tables → List ℕ
 pointer_line tables =
     let p = tables.pointer in
     line (codes "pointer at " ++ hex 8 tables.at ++ codes " table " ++ hex 8 p.address ++ codes " revision " ++ hex 2 p.revision ++ codes " features " ++ hex_bytes p.features)
 
-abbrev pub header_line : Table → List ℕ
+unfoldable pub header_line : Table → List ℕ
 header_line t =
     line (codes "header revision " ++ hex 2 t.revision ++ codes " oem " ++ quoted t.oem ++ codes " product " ++ quoted t.product
     ++ codes " oemtable " ++ hex 8 t.oem_table ++ codes " oemsize " ++ hex 4 t.oem_size ++ codes " local " ++ hex 8 t.local_address ++ codes " reserved " ++ hex 2 t.reserved)
 
 -- the fields of an interrupt entry, I/O or local
-abbrev pub interrupt_fields : IntEntry → List ℕ
+unfoldable pub interrupt_fields : IntEntry → List ℕ
 interrupt_fields e =
     codes " kind " ++ hex 2 e.kind ++ codes " flags " ++ hex 4 e.flags ++ codes " bus " ++ hex 2 e.bus ++ codes " irq " ++ hex 2 e.irq
     ++ codes " dest " ++ hex 2 e.dest ++ codes " pin " ++ hex 2 e.pin
 
-abbrev pub base_line : Base → List ℕ
+unfoldable pub base_line : Base → List ℕ
 base_line (base.Processor e) =
     line (codes "processor id " ++ hex 2 e.apic ++ codes " version " ++ hex 2 e.version ++ codes " flags " ++ hex 2 e.flags
     ++ codes " signature " ++ hex 8 e.signature ++ codes " features " ++ hex 8 e.features ++ codes " reserved " ++ hex_bytes e.reserved)
@@ -71,11 +71,11 @@ base_line (base.IoInt e) = line (codes "ioint" ++ interrupt_fields e)
 base_line (base.LocalInt e) = line (codes "localint" ++ interrupt_fields e)
 
 -- the bytes of an opaque entry, `-` where there are none
-abbrev pub rest_field : List ℕ → List ℕ
+unfoldable pub rest_field : List ℕ → List ℕ
 rest_field [] = codes "-"
 rest_field (b ∷ bytes) = hex_bytes (b ∷ bytes)
 
-abbrev pub ext_line : Ext → List ℕ
+unfoldable pub ext_line : Ext → List ℕ
 ext_line (ext.Space e) = line (codes "space bus " ++ hex 2 e.bus ++ codes " kind " ++ hex 2 e.kind ++ codes " base " ++ hex 16 e.base ++ codes " length " ++ hex 16 e.length)
 ext_line (ext.Hierarchy e) = line (codes "hierarchy bus " ++ hex 2 e.bus ++ codes " info " ++ hex 2 e.info ++ codes " parent " ++ hex 2 e.parent ++ codes " reserved " ++ hex_bytes e.reserved)
 ext_line (ext.Modifier e) = line (codes "modifier bus " ++ hex 2 e.bus ++ codes " flags " ++ hex 2 e.flags ++ codes " ranges " ++ hex 8 e.ranges)

@@ -12,6 +12,7 @@ use mpt_spec::{Base, Bus, Ext, Hierarchy, IntEntry, IoApic, Modifier, Opaque, Pr
 use crate::text::{push_bytes_field, push_field, push_hex_bytes, push_quoted_field, push_text};
 
 /// Writes the line of a base entry.
+#[tactic(auto, unfolding(crate::specs::Listing::base_line))]
 pub(crate) fn push_base_line(out: &mut Vec<u8>, entry: &Base) -> Result<(), AllocError>
     ensures { OnOk result (out.new.items ≡ out.old.items ++ base_line entry.now) }
 {
@@ -24,37 +25,41 @@ pub(crate) fn push_base_line(out: &mut Vec<u8>, entry: &Base) -> Result<(), Allo
     }
 }
 
+#[tactic(auto, unfolding(crate::specs::Listing::base_line))]
 fn push_processor_line(out: &mut Vec<u8>, entry: &Processor) -> Result<(), AllocError>
     ensures { OnOk result (out.new.items ≡ out.old.items ++ base_line (base.Processor entry.now)) }
 {
-    push_field(out, b"processor id ", 2, u64::from(entry.apic))?;
-    push_field(out, b" version ", 2, u64::from(entry.version))?;
-    push_field(out, b" flags ", 2, u64::from(entry.flags))?;
-    push_field(out, b" signature ", 8, u64::from(entry.signature))?;
-    push_field(out, b" features ", 8, u64::from(entry.features))?;
+    push_field(out, b"processor id ", 2, entry.apic as u64)?;
+    push_field(out, b" version ", 2, entry.version as u64)?;
+    push_field(out, b" flags ", 2, entry.flags as u64)?;
+    push_field(out, b" signature ", 8, entry.signature as u64)?;
+    push_field(out, b" features ", 8, entry.features as u64)?;
     push_bytes_field(out, b" reserved ", &entry.reserved)?;
     push_text(out, b"\n")
 }
 
+#[tactic(auto, unfolding(crate::specs::Listing::base_line))]
 fn push_bus_line(out: &mut Vec<u8>, entry: &Bus) -> Result<(), AllocError>
     ensures { OnOk result (out.new.items ≡ out.old.items ++ base_line (base.Bus entry.now)) }
 {
-    push_field(out, b"bus id ", 2, u64::from(entry.id))?;
+    push_field(out, b"bus id ", 2, entry.id as u64)?;
     push_quoted_field(out, b" name ", &entry.name)?;
     push_text(out, b"\n")
 }
 
+#[tactic(auto, unfolding(crate::specs::Listing::base_line))]
 fn push_io_apic_line(out: &mut Vec<u8>, entry: &IoApic) -> Result<(), AllocError>
     ensures { OnOk result (out.new.items ≡ out.old.items ++ base_line (base.IoApic entry.now)) }
 {
-    push_field(out, b"ioapic id ", 2, u64::from(entry.id))?;
-    push_field(out, b" version ", 2, u64::from(entry.version))?;
-    push_field(out, b" flags ", 2, u64::from(entry.flags))?;
-    push_field(out, b" address ", 8, u64::from(entry.address))?;
+    push_field(out, b"ioapic id ", 2, entry.id as u64)?;
+    push_field(out, b" version ", 2, entry.version as u64)?;
+    push_field(out, b" flags ", 2, entry.flags as u64)?;
+    push_field(out, b" address ", 8, entry.address as u64)?;
     push_text(out, b"\n")
 }
 
 // The line of an interrupt entry, I/O or local by its first word.
+#[tactic(auto, unfolding(crate::specs::Listing::interrupt_fields))]
 fn push_interrupt_line(
     out: &mut Vec<u8>,
     word: &[u8],
@@ -63,16 +68,17 @@ fn push_interrupt_line(
     ensures { OnOk result (out.new.items ≡ out.old.items ++ line (word.now ++ interrupt_fields entry.now)) }
 {
     push_text(out, word)?;
-    push_field(out, b" kind ", 2, u64::from(entry.kind))?;
-    push_field(out, b" flags ", 4, u64::from(entry.flags))?;
-    push_field(out, b" bus ", 2, u64::from(entry.bus))?;
-    push_field(out, b" irq ", 2, u64::from(entry.irq))?;
-    push_field(out, b" dest ", 2, u64::from(entry.dest))?;
-    push_field(out, b" pin ", 2, u64::from(entry.pin))?;
+    push_field(out, b" kind ", 2, entry.kind as u64)?;
+    push_field(out, b" flags ", 4, entry.flags as u64)?;
+    push_field(out, b" bus ", 2, entry.bus as u64)?;
+    push_field(out, b" irq ", 2, entry.irq as u64)?;
+    push_field(out, b" dest ", 2, entry.dest as u64)?;
+    push_field(out, b" pin ", 2, entry.pin as u64)?;
     push_text(out, b"\n")
 }
 
 /// Writes the line of an extended entry.
+#[tactic(auto, unfolding(crate::specs::Listing::ext_line))]
 pub(crate) fn push_ext_line(out: &mut Vec<u8>, entry: &Ext) -> Result<(), AllocError>
     ensures { OnOk result (out.new.items ≡ out.old.items ++ ext_line entry.now) }
 {
@@ -84,45 +90,50 @@ pub(crate) fn push_ext_line(out: &mut Vec<u8>, entry: &Ext) -> Result<(), AllocE
     }
 }
 
+#[tactic(auto, unfolding(crate::specs::Listing::ext_line))]
 fn push_space_line(out: &mut Vec<u8>, entry: &Space) -> Result<(), AllocError>
     ensures { OnOk result (out.new.items ≡ out.old.items ++ ext_line (ext.Space entry.now)) }
 {
-    push_field(out, b"space bus ", 2, u64::from(entry.bus))?;
-    push_field(out, b" kind ", 2, u64::from(entry.kind))?;
+    push_field(out, b"space bus ", 2, entry.bus as u64)?;
+    push_field(out, b" kind ", 2, entry.kind as u64)?;
     push_field(out, b" base ", 16, entry.base)?;
     push_field(out, b" length ", 16, entry.length)?;
     push_text(out, b"\n")
 }
 
+#[tactic(auto, unfolding(crate::specs::Listing::ext_line))]
 fn push_hierarchy_line(out: &mut Vec<u8>, entry: &Hierarchy) -> Result<(), AllocError>
     ensures { OnOk result (out.new.items ≡ out.old.items ++ ext_line (ext.Hierarchy entry.now)) }
 {
-    push_field(out, b"hierarchy bus ", 2, u64::from(entry.bus))?;
-    push_field(out, b" info ", 2, u64::from(entry.info))?;
-    push_field(out, b" parent ", 2, u64::from(entry.parent))?;
+    push_field(out, b"hierarchy bus ", 2, entry.bus as u64)?;
+    push_field(out, b" info ", 2, entry.info as u64)?;
+    push_field(out, b" parent ", 2, entry.parent as u64)?;
     push_bytes_field(out, b" reserved ", &entry.reserved)?;
     push_text(out, b"\n")
 }
 
+#[tactic(auto, unfolding(crate::specs::Listing::ext_line))]
 fn push_modifier_line(out: &mut Vec<u8>, entry: &Modifier) -> Result<(), AllocError>
     ensures { OnOk result (out.new.items ≡ out.old.items ++ ext_line (ext.Modifier entry.now)) }
 {
-    push_field(out, b"modifier bus ", 2, u64::from(entry.bus))?;
-    push_field(out, b" flags ", 2, u64::from(entry.flags))?;
-    push_field(out, b" ranges ", 8, u64::from(entry.ranges))?;
+    push_field(out, b"modifier bus ", 2, entry.bus as u64)?;
+    push_field(out, b" flags ", 2, entry.flags as u64)?;
+    push_field(out, b" ranges ", 8, entry.ranges as u64)?;
     push_text(out, b"\n")
 }
 
+#[tactic(auto, unfolding(crate::specs::Listing::ext_line))]
 fn push_opaque_line(out: &mut Vec<u8>, entry: &Opaque) -> Result<(), AllocError>
     ensures { OnOk result (out.new.items ≡ out.old.items ++ ext_line (ext.Opaque entry.now)) }
 {
-    push_field(out, b"opaque kind ", 2, u64::from(entry.kind))?;
+    push_field(out, b"opaque kind ", 2, entry.kind as u64)?;
     push_text(out, b" rest ")?;
     push_rest(out, entry.rest.as_slice())?;
     push_text(out, b"\n")
 }
 
 // The bytes of an opaque entry, or `-` where there are none.
+#[tactic(auto, unfolding(crate::specs::Listing::rest_field))]
 fn push_rest(out: &mut Vec<u8>, rest: &[u8]) -> Result<(), AllocError>
     ensures { OnOk result (out.new.items ≡ out.old.items ++ rest_field rest.now) }
 {

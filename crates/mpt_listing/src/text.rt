@@ -16,6 +16,14 @@ pub fn push_text(out: &mut Vec<u8>, text: &[u8]) -> Result<(), AllocError>
 }
 
 /// Writes the lowest digits of a number, the highest of them first.
+#[tactic(
+    auto,
+    using(
+        crate::proofs::TextLemmas::append_hex_none,
+        crate::proofs::TextLemmas::hex_more,
+        std::proofs::lemmas::List::append_assoc
+    )
+)]
 pub fn push_hex(out: &mut Vec<u8>, digits: u32, number: u64) -> Result<(), AllocError>
     ensures { OnOk result (out.new.items ≡ out.old.items ++ hex digits number) }
 {
@@ -35,16 +43,18 @@ fn hex_digit(value: u8) -> u8
 }
 
 /// Writes two digits for each byte.
+#[tactic(auto, unfolding(crate::specs::Listing::hex_bytes))]
 pub fn push_hex_bytes(out: &mut Vec<u8>, bytes: &[u8]) -> Result<(), AllocError>
     ensures { OnOk result (out.new.items ≡ out.old.items ++ hex_bytes bytes.now) }
 {
     for byte in bytes {
-        push_hex(out, 2, u64::from(*byte))?;
+        push_hex(out, 2, *byte as u64)?;
     }
     Ok(())
 }
 
 /// Writes bytes in double quotes, those that aren't plain as `\x` and two digits.
+#[tactic(auto, unfolding(crate::specs::Listing::quoted))]
 pub fn push_quoted(out: &mut Vec<u8>, bytes: &[u8]) -> Result<(), AllocError>
     ensures { OnOk result (out.new.items ≡ out.old.items ++ quoted bytes.now) }
 {
@@ -64,7 +74,7 @@ fn push_quoted_byte(out: &mut Vec<u8>, byte: u8) -> Result<(), AllocError>
         Ok(())
     } else {
         push_text(out, b"\\x")?;
-        push_hex(out, 2, u64::from(byte))
+        push_hex(out, 2, byte as u64)
     }
 }
 
@@ -82,7 +92,7 @@ pub fn push_field(
     digits: u32,
     number: u64,
 ) -> Result<(), AllocError>
-    ensures { OnOk result (out.new.items ≡ out.old.items ++ name.now ++ hex digits number) }
+    ensures { OnOk result (out.new.items ≡ out.old.items ++ (name.now ++ hex digits number)) }
 {
     push_text(out, name)?;
     push_hex(out, digits, number)
@@ -90,7 +100,7 @@ pub fn push_field(
 
 /// Writes the name of a field, with its spaces, and two digits for each byte.
 pub fn push_bytes_field(out: &mut Vec<u8>, name: &[u8], bytes: &[u8]) -> Result<(), AllocError>
-    ensures { OnOk result (out.new.items ≡ out.old.items ++ name.now ++ hex_bytes bytes.now) }
+    ensures { OnOk result (out.new.items ≡ out.old.items ++ (name.now ++ hex_bytes bytes.now)) }
 {
     push_text(out, name)?;
     push_hex_bytes(out, bytes)
@@ -98,7 +108,7 @@ pub fn push_bytes_field(out: &mut Vec<u8>, name: &[u8], bytes: &[u8]) -> Result<
 
 /// Writes the name of a field, with its spaces, and bytes in double quotes.
 pub fn push_quoted_field(out: &mut Vec<u8>, name: &[u8], bytes: &[u8]) -> Result<(), AllocError>
-    ensures { OnOk result (out.new.items ≡ out.old.items ++ name.now ++ quoted bytes.now) }
+    ensures { OnOk result (out.new.items ≡ out.old.items ++ (name.now ++ quoted bytes.now)) }
 {
     push_text(out, name)?;
     push_quoted(out, bytes)
