@@ -1,7 +1,8 @@
 //! The lines of the entries of the base table and of the extended part.
 
 ghost use Rattle.std.specs.Prelude.{◌≡◌, ◌++◌, OnOk, codes};
-ghost use Rattle.mpt_listing.specs.Listing.{line, interrupt_fields, base_line, rest_field, ext_line};
+ghost use Rattle.mpt_listing.specs.Listing.{interrupt_line, base_line, rest_field, ext_line};
+ghost use Rattle.mpt_listing.specs.Part.{part_text};
 ghost use Rattle.mpt_spec.specs.declared.entry.Base.TheVariants as base;
 ghost use Rattle.mpt_spec.specs.declared.entry.Ext.TheVariants as ext;
 
@@ -9,10 +10,9 @@ use std::alloc::AllocError;
 
 use mpt_spec::{Base, Bus, Ext, Hierarchy, IntEntry, IoApic, Modifier, Opaque, Processor, Space};
 
-use crate::text::{push_bytes_field, push_field, push_hex_bytes, push_quoted_field, push_text};
+use crate::text::{push_line, Part};
 
 /// Writes the line of a base entry.
-#[tactic(auto, unfolding(crate::specs::Listing::base_line))]
 pub(crate) fn push_base_line(out: &mut Vec<u8>, entry: &Base) -> Result<(), AllocError>
     ensures { OnOk result (out.new.items ≡ out.old.items ++ base_line entry.now) }
 {
@@ -25,60 +25,89 @@ pub(crate) fn push_base_line(out: &mut Vec<u8>, entry: &Base) -> Result<(), Allo
     }
 }
 
-#[tactic(auto, unfolding(crate::specs::Listing::base_line))]
 fn push_processor_line(out: &mut Vec<u8>, entry: &Processor) -> Result<(), AllocError>
     ensures { OnOk result (out.new.items ≡ out.old.items ++ base_line (base.Processor entry.now)) }
 {
-    push_field(out, b"processor id ", 2, entry.apic as u64)?;
-    push_field(out, b" version ", 2, entry.version as u64)?;
-    push_field(out, b" flags ", 2, entry.flags as u64)?;
-    push_field(out, b" signature ", 8, entry.signature as u64)?;
-    push_field(out, b" features ", 8, entry.features as u64)?;
-    push_bytes_field(out, b" reserved ", &entry.reserved)?;
-    push_text(out, b"\n")
+    push_line(
+        out,
+        &[
+            Part::Text(b"processor id "),
+            Part::Hex(2, entry.apic as u64),
+            Part::Text(b" version "),
+            Part::Hex(2, entry.version as u64),
+            Part::Text(b" flags "),
+            Part::Hex(2, entry.flags as u64),
+            Part::Text(b" signature "),
+            Part::Hex(8, entry.signature as u64),
+            Part::Text(b" features "),
+            Part::Hex(8, entry.features as u64),
+            Part::Text(b" reserved "),
+            Part::HexBytes(&entry.reserved),
+        ],
+    )
 }
 
-#[tactic(auto, unfolding(crate::specs::Listing::base_line))]
 fn push_bus_line(out: &mut Vec<u8>, entry: &Bus) -> Result<(), AllocError>
     ensures { OnOk result (out.new.items ≡ out.old.items ++ base_line (base.Bus entry.now)) }
 {
-    push_field(out, b"bus id ", 2, entry.id as u64)?;
-    push_quoted_field(out, b" name ", &entry.name)?;
-    push_text(out, b"\n")
+    push_line(
+        out,
+        &[
+            Part::Text(b"bus id "),
+            Part::Hex(2, entry.id as u64),
+            Part::Text(b" name "),
+            Part::Quoted(&entry.name),
+        ],
+    )
 }
 
-#[tactic(auto, unfolding(crate::specs::Listing::base_line))]
 fn push_io_apic_line(out: &mut Vec<u8>, entry: &IoApic) -> Result<(), AllocError>
     ensures { OnOk result (out.new.items ≡ out.old.items ++ base_line (base.IoApic entry.now)) }
 {
-    push_field(out, b"ioapic id ", 2, entry.id as u64)?;
-    push_field(out, b" version ", 2, entry.version as u64)?;
-    push_field(out, b" flags ", 2, entry.flags as u64)?;
-    push_field(out, b" address ", 8, entry.address as u64)?;
-    push_text(out, b"\n")
+    push_line(
+        out,
+        &[
+            Part::Text(b"ioapic id "),
+            Part::Hex(2, entry.id as u64),
+            Part::Text(b" version "),
+            Part::Hex(2, entry.version as u64),
+            Part::Text(b" flags "),
+            Part::Hex(2, entry.flags as u64),
+            Part::Text(b" address "),
+            Part::Hex(8, entry.address as u64),
+        ],
+    )
 }
 
 // The line of an interrupt entry, I/O or local by its first word.
-#[tactic(auto, unfolding(crate::specs::Listing::interrupt_fields))]
 fn push_interrupt_line(
     out: &mut Vec<u8>,
     word: &[u8],
     entry: &IntEntry,
 ) -> Result<(), AllocError>
-    ensures { OnOk result (out.new.items ≡ out.old.items ++ line (word.now ++ interrupt_fields entry.now)) }
+    ensures { OnOk result (out.new.items ≡ out.old.items ++ interrupt_line word.now entry.now) }
 {
-    push_text(out, word)?;
-    push_field(out, b" kind ", 2, entry.kind as u64)?;
-    push_field(out, b" flags ", 4, entry.flags as u64)?;
-    push_field(out, b" bus ", 2, entry.bus as u64)?;
-    push_field(out, b" irq ", 2, entry.irq as u64)?;
-    push_field(out, b" dest ", 2, entry.dest as u64)?;
-    push_field(out, b" pin ", 2, entry.pin as u64)?;
-    push_text(out, b"\n")
+    push_line(
+        out,
+        &[
+            Part::Text(word),
+            Part::Text(b" kind "),
+            Part::Hex(2, entry.kind as u64),
+            Part::Text(b" flags "),
+            Part::Hex(4, entry.flags as u64),
+            Part::Text(b" bus "),
+            Part::Hex(2, entry.bus as u64),
+            Part::Text(b" irq "),
+            Part::Hex(2, entry.irq as u64),
+            Part::Text(b" dest "),
+            Part::Hex(2, entry.dest as u64),
+            Part::Text(b" pin "),
+            Part::Hex(2, entry.pin as u64),
+        ],
+    )
 }
 
 /// Writes the line of an extended entry.
-#[tactic(auto, unfolding(crate::specs::Listing::ext_line))]
 pub(crate) fn push_ext_line(out: &mut Vec<u8>, entry: &Ext) -> Result<(), AllocError>
     ensures { OnOk result (out.new.items ≡ out.old.items ++ ext_line entry.now) }
 {
@@ -90,56 +119,79 @@ pub(crate) fn push_ext_line(out: &mut Vec<u8>, entry: &Ext) -> Result<(), AllocE
     }
 }
 
-#[tactic(auto, unfolding(crate::specs::Listing::ext_line))]
 fn push_space_line(out: &mut Vec<u8>, entry: &Space) -> Result<(), AllocError>
     ensures { OnOk result (out.new.items ≡ out.old.items ++ ext_line (ext.Space entry.now)) }
 {
-    push_field(out, b"space bus ", 2, entry.bus as u64)?;
-    push_field(out, b" kind ", 2, entry.kind as u64)?;
-    push_field(out, b" base ", 16, entry.base)?;
-    push_field(out, b" length ", 16, entry.length)?;
-    push_text(out, b"\n")
+    push_line(
+        out,
+        &[
+            Part::Text(b"space bus "),
+            Part::Hex(2, entry.bus as u64),
+            Part::Text(b" kind "),
+            Part::Hex(2, entry.kind as u64),
+            Part::Text(b" base "),
+            Part::Hex(16, entry.base),
+            Part::Text(b" length "),
+            Part::Hex(16, entry.length),
+        ],
+    )
 }
 
-#[tactic(auto, unfolding(crate::specs::Listing::ext_line))]
 fn push_hierarchy_line(out: &mut Vec<u8>, entry: &Hierarchy) -> Result<(), AllocError>
     ensures { OnOk result (out.new.items ≡ out.old.items ++ ext_line (ext.Hierarchy entry.now)) }
 {
-    push_field(out, b"hierarchy bus ", 2, entry.bus as u64)?;
-    push_field(out, b" info ", 2, entry.info as u64)?;
-    push_field(out, b" parent ", 2, entry.parent as u64)?;
-    push_bytes_field(out, b" reserved ", &entry.reserved)?;
-    push_text(out, b"\n")
+    push_line(
+        out,
+        &[
+            Part::Text(b"hierarchy bus "),
+            Part::Hex(2, entry.bus as u64),
+            Part::Text(b" info "),
+            Part::Hex(2, entry.info as u64),
+            Part::Text(b" parent "),
+            Part::Hex(2, entry.parent as u64),
+            Part::Text(b" reserved "),
+            Part::HexBytes(&entry.reserved),
+        ],
+    )
 }
 
-#[tactic(auto, unfolding(crate::specs::Listing::ext_line))]
 fn push_modifier_line(out: &mut Vec<u8>, entry: &Modifier) -> Result<(), AllocError>
     ensures { OnOk result (out.new.items ≡ out.old.items ++ ext_line (ext.Modifier entry.now)) }
 {
-    push_field(out, b"modifier bus ", 2, entry.bus as u64)?;
-    push_field(out, b" flags ", 2, entry.flags as u64)?;
-    push_field(out, b" ranges ", 8, entry.ranges as u64)?;
-    push_text(out, b"\n")
+    push_line(
+        out,
+        &[
+            Part::Text(b"modifier bus "),
+            Part::Hex(2, entry.bus as u64),
+            Part::Text(b" flags "),
+            Part::Hex(2, entry.flags as u64),
+            Part::Text(b" ranges "),
+            Part::Hex(8, entry.ranges as u64),
+        ],
+    )
 }
 
-#[tactic(auto, unfolding(crate::specs::Listing::ext_line))]
 fn push_opaque_line(out: &mut Vec<u8>, entry: &Opaque) -> Result<(), AllocError>
     ensures { OnOk result (out.new.items ≡ out.old.items ++ ext_line (ext.Opaque entry.now)) }
 {
-    push_field(out, b"opaque kind ", 2, entry.kind as u64)?;
-    push_text(out, b" rest ")?;
-    push_rest(out, entry.rest.as_slice())?;
-    push_text(out, b"\n")
+    push_line(
+        out,
+        &[
+            Part::Text(b"opaque kind "),
+            Part::Hex(2, entry.kind as u64),
+            Part::Text(b" rest "),
+            rest_part(entry.rest.as_slice()),
+        ],
+    )
 }
 
 // The bytes of an opaque entry, or `-` where there are none.
-#[tactic(auto, unfolding(crate::specs::Listing::rest_field))]
-fn push_rest(out: &mut Vec<u8>, rest: &[u8]) -> Result<(), AllocError>
-    ensures { OnOk result (out.new.items ≡ out.old.items ++ rest_field rest.now) }
+fn rest_part(rest: &[u8]) -> Part
+    ensures { part_text result ≡ rest_field rest.now }
 {
     if rest.is_empty() {
-        push_text(out, b"-")
+        Part::Text(b"-")
     } else {
-        push_hex_bytes(out, rest)
+        Part::HexBytes(rest)
     }
 }

@@ -11,7 +11,7 @@ use mpt_spec::{Base, Body, Ext, Tables};
 
 use crate::entry_lines::{push_base_line, push_ext_line};
 use crate::table_lines::{push_header_line, push_pointer_line};
-use crate::text::push_text;
+use crate::text::{push_line, Part};
 
 /// The listing of tables. It takes memory for the text alone, and fails only where that runs out.
 ///
@@ -30,10 +30,10 @@ pub fn print(alloc: Global, tables: &Tables) -> Result<Vec<u8>, NoMemory>
 fn push_listing(out: &mut Vec<u8>, tables: &Tables) -> Result<(), AllocError>
     ensures { OnOk result (out.new.items ≡ out.old.items ++ listing_of tables.now) }
 {
-    push_text(out, b"mptable 1\n")?;
+    push_line(out, &[Part::Text(b"mptable 1")])?;
     push_pointer_line(out, tables)?;
     push_body(out, &tables.body)?;
-    push_text(out, b"end\n")
+    push_line(out, &[Part::Text(b"end")])
 }
 
 fn push_body(out: &mut Vec<u8>, body: &Body) -> Result<(), AllocError>

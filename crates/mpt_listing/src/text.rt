@@ -3,10 +3,48 @@
 //! Each function writes at the end of a text and takes memory for nothing else. It fails only where
 //! memory runs out, and may then have written a part.
 
-ghost use Rattle.std.specs.Prelude.{◌≡◌, ◌<◌, ◌++◌, ◌∷◌, [], OnOk};
-ghost use Rattle.mpt_listing.specs.Listing.{hex_digit, hex, hex_bytes, is_plain_byte, quoted_byte, quoted};
+ghost use Rattle.std.specs.Prelude.{◌≡◌, ◌<◌, ◌++◌, ◌∷◌, [], map, OnOk};
+ghost use Rattle.mpt_listing.specs.Listing.{line, hex_digit, hex, hex_bytes, is_plain_byte, quoted_byte, quoted};
+ghost use Rattle.mpt_listing.specs.Part.{part_text};
 
 use std::alloc::AllocError;
+
+/// A part of a line.
+#[derive(Clone, Copy)]
+pub enum Part<'a> {
+    /// A text as it stands, with its spaces.
+    Text(&'a [u8]),
+    /// A number of this many digits, and the number.
+    Hex(u32, u64),
+    /// Two digits for each byte.
+    HexBytes(&'a [u8]),
+    /// Bytes in double quotes.
+    Quoted(&'a [u8]),
+}
+
+/// Writes a line: its parts, then a line feed.
+#[tactic(auto, using(crate::proofs::TextLemmas::line_of_parts))]
+pub fn push_line(out: &mut Vec<u8>, parts: &[Part]) -> Result<(), AllocError>
+    ensures { OnOk result (out.new.items ≡ out.old.items ++ line (map part_text parts.now)) }
+{
+    for part in parts {
+        push_part(out, part)?;
+    }
+    out.push(b'\n')?;
+    Ok(())
+}
+
+/// Writes a part of a line.
+pub fn push_part(out: &mut Vec<u8>, part: &Part) -> Result<(), AllocError>
+    ensures { OnOk result (out.new.items ≡ out.old.items ++ part_text part.now) }
+{
+    match *part {
+        Part::Text(text) => push_text(out, text),
+        Part::Hex(digits, number) => push_hex(out, digits, number),
+        Part::HexBytes(bytes) => push_hex_bytes(out, bytes),
+        Part::Quoted(bytes) => push_quoted(out, bytes),
+    }
+}
 
 /// Writes the text as it stands.
 pub fn push_text(out: &mut Vec<u8>, text: &[u8]) -> Result<(), AllocError>
@@ -83,33 +121,4 @@ fn is_plain(byte: u8) -> bool
     ensures { result ≡ is_plain_byte byte }
 {
     matches!(byte, 0x20..=0x7E) && byte != b'"' && byte != b'\\'
-}
-
-/// Writes the name of a field, with its spaces, and the lowest digits of a number.
-pub fn push_field(
-    out: &mut Vec<u8>,
-    name: &[u8],
-    digits: u32,
-    number: u64,
-) -> Result<(), AllocError>
-    ensures { OnOk result (out.new.items ≡ out.old.items ++ (name.now ++ hex digits number)) }
-{
-    push_text(out, name)?;
-    push_hex(out, digits, number)
-}
-
-/// Writes the name of a field, with its spaces, and two digits for each byte.
-pub fn push_bytes_field(out: &mut Vec<u8>, name: &[u8], bytes: &[u8]) -> Result<(), AllocError>
-    ensures { OnOk result (out.new.items ≡ out.old.items ++ (name.now ++ hex_bytes bytes.now)) }
-{
-    push_text(out, name)?;
-    push_hex_bytes(out, bytes)
-}
-
-/// Writes the name of a field, with its spaces, and bytes in double quotes.
-pub fn push_quoted_field(out: &mut Vec<u8>, name: &[u8], bytes: &[u8]) -> Result<(), AllocError>
-    ensures { OnOk result (out.new.items ≡ out.old.items ++ (name.now ++ quoted bytes.now)) }
-{
-    push_text(out, name)?;
-    push_quoted(out, bytes)
 }
