@@ -23,7 +23,6 @@ pub enum Part<'a> {
 }
 
 /// Writes a line: its parts, then a line feed.
-#[tactic(auto, using(crate::proofs::TextLemmas::line_of_parts))]
 pub fn push_line(out: &mut Vec<u8>, parts: &[Part]) -> Result<(), AllocError>
     ensures { OnOk result (out.new.items ≡ out.old.items ++ line (map part_text parts.now)) }
 {
