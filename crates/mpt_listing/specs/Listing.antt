@@ -1,8 +1,9 @@
 -- The listing of tables: a text of lines, this project's own.
---     hex k n            k digits of a number, upper case
---     quoted bytes       bytes in double quotes, with escapes
+--     hex k n               k digits of a number, upper case
+--     quoted bytes          bytes in double quotes, with escapes
+--     line parts            the parts of a line, and its line feed
 --     base_line, ext_line   the line of an entry
---     listing_of tables  the whole text
+--     listing_of tables     the whole text
 use Rattle.std.specs.Prelude.{ℕ, zero, suc, ◌+◌, ◌/◌, ◌%◌, ◌&&◌, not, nat_le, nat_lt, Bool, ◌==◌, if◌then◌else◌, List, [], ◌∷◌, ◌++◌, codes}
 use Rattle.std.specs.List.{flat_map}
 use Rattle.mpt_spec.specs.declared.pointer.Pointer.{Pointer}

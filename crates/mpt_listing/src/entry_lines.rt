@@ -6,11 +6,9 @@ ghost use Rattle.mpt_listing.specs.Part.{part_text};
 ghost use Rattle.mpt_spec.specs.declared.entry.Base.TheVariants as base;
 ghost use Rattle.mpt_spec.specs.declared.entry.Ext.TheVariants as ext;
 
-use std::alloc::AllocError;
-
+use crate::text::{Part, push_line};
 use mpt_spec::{Base, Bus, Ext, Hierarchy, IntEntry, IoApic, Modifier, Opaque, Processor, Space};
-
-use crate::text::{push_line, Part};
+use std::alloc::AllocError;
 
 /// Writes the line of a base entry.
 pub(crate) fn push_base_line(out: &mut Vec<u8>, entry: &Base) -> Result<(), AllocError>
@@ -80,11 +78,7 @@ fn push_io_apic_line(out: &mut Vec<u8>, entry: &IoApic) -> Result<(), AllocError
 }
 
 // The line of an interrupt entry, I/O or local by its first word.
-fn push_interrupt_line(
-    out: &mut Vec<u8>,
-    word: &[u8],
-    entry: &IntEntry,
-) -> Result<(), AllocError>
+fn push_interrupt_line(out: &mut Vec<u8>, word: &[u8], entry: &IntEntry) -> Result<(), AllocError>
     ensures { OnOk result (out.new.items ≡ out.old.items ++ interrupt_line word.now entry.now) }
 {
     push_line(

@@ -10,4 +10,4 @@ mod tests;
 mod text;
 
 pub use printing::print;
-pub use text::{push_hex, push_hex_bytes, push_line, push_part, push_quoted, push_text, Part};
+pub use text::{Part, push_hex, push_hex_bytes, push_line, push_part, push_quoted, push_text};

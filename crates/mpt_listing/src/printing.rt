@@ -4,14 +4,12 @@ ghost use Rattle.std.specs.Prelude.{◌≡◌, ◌++◌, IfOk, OnOk};
 ghost use Rattle.std.specs.List.{flat_map};
 ghost use Rattle.mpt_listing.specs.Listing.{base_line, ext_line, body_lines, listing_of};
 
-use std::alloc::{AllocError, Global};
-
-use mpt_base::NoMemory;
-use mpt_spec::{Base, Body, Ext, Tables};
-
 use crate::entry_lines::{push_base_line, push_ext_line};
 use crate::table_lines::{push_header_line, push_pointer_line};
-use crate::text::{push_line, Part};
+use crate::text::{Part, push_line};
+use mpt_base::NoMemory;
+use mpt_spec::{Base, Body, Ext, Tables};
+use std::alloc::{AllocError, Global};
 
 /// The listing of tables. It takes memory for the text alone, and fails only where that runs out.
 ///

@@ -3,11 +3,9 @@
 ghost use Rattle.std.specs.Prelude.{◌≡◌, ◌++◌, OnOk};
 ghost use Rattle.mpt_listing.specs.Listing.{pointer_line, header_line};
 
-use std::alloc::AllocError;
-
+use crate::text::{Part, push_line};
 use mpt_spec::{Table, Tables};
-
-use crate::text::{push_line, Part};
+use std::alloc::AllocError;
 
 /// Writes where the floating pointer is, and what it says.
 pub(crate) fn push_pointer_line(out: &mut Vec<u8>, tables: &Tables) -> Result<(), AllocError>

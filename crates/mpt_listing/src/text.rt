@@ -53,14 +53,7 @@ pub fn push_text(out: &mut Vec<u8>, text: &[u8]) -> Result<(), AllocError>
 }
 
 /// Writes the lowest digits of a number, the highest of them first.
-#[tactic(
-    auto,
-    using(
-        crate::proofs::TextLemmas::append_hex_none,
-        crate::proofs::TextLemmas::hex_more,
-        std::proofs::lemmas::List::append_assoc
-    )
-)]
+#[tactic(auto, using(crate::proofs::TextLemmas::append_hex_none, crate::proofs::TextLemmas::hex_more, std::proofs::lemmas::List::append_assoc))]
 pub fn push_hex(out: &mut Vec<u8>, digits: u32, number: u64) -> Result<(), AllocError>
     ensures { OnOk result (out.new.items ≡ out.old.items ++ hex digits number) }
 {
@@ -76,7 +69,11 @@ fn hex_digit(value: u8) -> u8
     requires { value < 16 }
     ensures { result ≡ hex_digit value }
 {
-    if value < 10 { b'0' + value } else { b'A' + (value - 10) }
+    if value < 10 {
+        b'0' + value
+    } else {
+        b'A' + (value - 10)
+    }
 }
 
 /// Writes two digits for each byte.

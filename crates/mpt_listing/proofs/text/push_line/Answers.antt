@@ -10,4 +10,4 @@ returns c =
     let written : c.loop-part.out.items ≡ c.args.out.now.items ++ flat_map part_text c.args.parts.now = grind (arith, common_steps) in
     let ended : c.push.new.self.items ≡ c.loop-part.out.items ++ 10 ∷ [] = c.in_ok-push.ensures.items in
     rw (ended, written, line_of_parts part_text c.args.parts.now)
-        (append_assoc c.args.out.now.items (flat_map part_text c.args.parts.now) (10 ∷ []))
+    (append_assoc c.args.out.now.items (flat_map part_text c.args.parts.now) (10 ∷ []))
