@@ -6,7 +6,6 @@
 --     listing_of tables     the whole text
 use Rattle.std.specs.Prelude.{ℕ, zero, suc, ◌+◌, ◌/◌, ◌%◌, ◌&&◌, not, nat_le, nat_lt, Bool, ◌==◌, if◌then◌else◌, List, [], ◌∷◌, ◌++◌, codes}
 use Rattle.std.specs.List.{flat_map}
-use Rattle.mpt_spec.specs.declared.pointer.Pointer.{Pointer}
 use Rattle.mpt_spec.specs.declared.entry.IntEntry.{IntEntry}
 use Rattle.mpt_spec.specs.declared.entry.Base.{Base}
 use Rattle.mpt_spec.specs.declared.entry.Base.TheVariants as base
