@@ -46,11 +46,13 @@ abbrev pub line : List (List ℕ) → List ℕ
 line [] = 10 ∷ []
 line (part ∷ parts) = part ++ line parts
 
+-- where the floating pointer is, and what it says
 abbrev pub pointer_line : Tables → List ℕ
 pointer_line tables =
     let p = tables.pointer in
     line (codes "pointer at " ∷ hex 8 tables.at ∷ codes " table " ∷ hex 8 p.address ∷ codes " revision " ∷ hex 2 p.revision ∷ codes " features " ∷ hex_bytes p.features ∷ [])
 
+-- the fields of the header that the entries don't determine
 abbrev pub header_line : Table → List ℕ
 header_line t =
     line (codes "header revision " ∷ hex 2 t.revision ∷ codes " oem " ∷ quoted t.oem ∷ codes " product " ∷ quoted t.product
@@ -62,6 +64,7 @@ interrupt_line word e =
     line (word ∷ codes " kind " ∷ hex 2 e.kind ∷ codes " flags " ∷ hex 4 e.flags ∷ codes " bus " ∷ hex 2 e.bus ∷ codes " irq " ∷ hex 2 e.irq
     ∷ codes " dest " ∷ hex 2 e.dest ∷ codes " pin " ∷ hex 2 e.pin ∷ [])
 
+-- the line of a base entry
 abbrev pub base_line : Base → List ℕ
 base_line (base.Processor e) =
     line (codes "processor id " ∷ hex 2 e.apic ∷ codes " version " ∷ hex 2 e.version ∷ codes " flags " ∷ hex 2 e.flags
@@ -76,6 +79,7 @@ abbrev pub rest_field : List ℕ → List ℕ
 rest_field [] = codes "-"
 rest_field (b ∷ bytes) = hex_bytes (b ∷ bytes)
 
+-- the line of an extended entry
 abbrev pub ext_line : Ext → List ℕ
 ext_line (ext.Space e) = line (codes "space bus " ∷ hex 2 e.bus ∷ codes " kind " ∷ hex 2 e.kind ∷ codes " base " ∷ hex 16 e.base ∷ codes " length " ∷ hex 16 e.length ∷ [])
 ext_line (ext.Hierarchy e) = line (codes "hierarchy bus " ∷ hex 2 e.bus ∷ codes " info " ∷ hex 2 e.info ∷ codes " parent " ∷ hex 2 e.parent ∷ codes " reserved " ∷ hex_bytes e.reserved ∷ [])

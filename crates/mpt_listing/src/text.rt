@@ -22,7 +22,7 @@ pub enum Part<'a> {
     Quoted(&'a [u8]),
 }
 
-/// Writes a line: its parts, then a line feed.
+/// Writes a line: its parts, then a line feed. After an error a first piece of it may be written.
 pub fn push_line(out: &mut Vec<u8>, parts: &[Part]) -> Result<(), AllocError>
     ensures { OnOk result (out.new.items ≡ out.old.items ++ line (map part_text parts.now)) }
 {
@@ -33,7 +33,7 @@ pub fn push_line(out: &mut Vec<u8>, parts: &[Part]) -> Result<(), AllocError>
     Ok(())
 }
 
-/// Writes a part of a line.
+/// Writes a part of a line. After an error a first piece of it may be written.
 pub fn push_part(out: &mut Vec<u8>, part: &Part) -> Result<(), AllocError>
     ensures { OnOk result (out.new.items ≡ out.old.items ++ part_text part.now) }
 {
