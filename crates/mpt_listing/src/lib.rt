@@ -10,4 +10,6 @@ mod tests;
 mod text;
 
 pub use printing::print;
-pub use text::{Part, push_hex, push_hex_bytes, push_line, push_part, push_quoted, push_text};
+pub use text::{
+    Part, push_decimal, push_hex, push_hex_bytes, push_line, push_part, push_quoted, push_text,
+};

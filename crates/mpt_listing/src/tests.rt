@@ -171,3 +171,22 @@ end
     assert_eq!(rt; text.as_slice(), want.as_slice());
     Ok(())
 }
+
+#[test]
+fn line_of_parts(rt: HostRuntime) -> Result<(), Fail> {
+    let mut out = Vec::new(rt.alloc());
+    let at = [
+        Part::Text(b"fault "),
+        Part::Decimal(16),
+        Part::Text(b" at "),
+        Part::Hex(8, 0xF0050),
+    ];
+    push_line(&mut out, &at)?;
+    push_line(
+        &mut out,
+        &[Part::Decimal(0), Part::Text(b" "), Part::Decimal(u64::MAX)],
+    )?;
+    let want = b"fault 16 at 000F0050\n0 18446744073709551615\n";
+    assert_eq!(rt; out.as_slice(), want.as_slice());
+    Ok(())
+}

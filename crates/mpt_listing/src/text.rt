@@ -3,10 +3,11 @@
 //! Each function writes at the end of a text and takes memory for nothing else. It fails only where
 //! memory runs out, and may then have written a part.
 
-ghost use Rattle.std.specs.Prelude.{◌≡◌, ◌<◌, ◌++◌, ◌∷◌, [], map, OnOk};
+ghost use Rattle.std.specs.Prelude.{◌≡◌, ◌<◌, ◌++◌, ◌∷◌, [], decimal, map, OnOk};
 ghost use Rattle.mpt_listing.specs.Listing.{line, hex_digit, hex, hex_bytes, is_plain_byte, quoted_byte, quoted};
 ghost use Rattle.mpt_listing.specs.Part.{part_text};
 
+use itoa::Buffer;
 use std::alloc::AllocError;
 
 /// A part of a line.
@@ -16,6 +17,8 @@ pub enum Part<'a> {
     Text(&'a [u8]),
     /// A number of this many digits, and the number.
     Hex(u32, u64),
+    /// A number in decimal, without leading zeros.
+    Decimal(u64),
     /// Two digits for each byte.
     HexBytes(&'a [u8]),
     /// Bytes in double quotes.
@@ -40,6 +43,7 @@ pub fn push_part(out: &mut Vec<u8>, part: &Part) -> Result<(), AllocError>
     match *part {
         Part::Text(text) => push_text(out, text),
         Part::Hex(digits, number) => push_hex(out, digits, number),
+        Part::Decimal(number) => push_decimal(out, number),
         Part::HexBytes(bytes) => push_hex_bytes(out, bytes),
         Part::Quoted(bytes) => push_quoted(out, bytes),
     }
@@ -74,6 +78,14 @@ fn hex_digit(value: u8) -> u8
     } else {
         b'A' + (value - 10)
     }
+}
+
+/// Writes a number in decimal, without leading zeros.
+pub fn push_decimal(out: &mut Vec<u8>, number: u64) -> Result<(), AllocError>
+    ensures { OnOk result (out.new.items ≡ out.old.items ++ decimal number) }
+{
+    let mut buffer = Buffer::new();
+    out.extend_from_slice(buffer.format(number).as_bytes())
 }
 
 /// Writes two digits for each byte.
