@@ -1,12 +1,12 @@
 -- What the program answers to words and files: a status and a text. The walk goes over the words and the files that they name.
---     show_name words                    the image that `show` names, where the words are `show IMAGE`
+--     IsShow words name                  the words are `show` and the name of an image
 --     Holds told name held               this may be what the file of that name is
 --     IsImageAnswer image status text    the answer of `show` to an image
+--     IsFileAnswer name told status text the answer of `show` to what the file of that name is
 --     IsAnswer words told status text    the answer of the walk
 --     IsDue words told status text       the answer, or a failed read or want of memory in its place
 --     IsDelivered ..                     the text came to the sink's end, or a first part of it with status 5
-use Rattle.std.specs.Prelude.{◌≡◌, ◌==◌, ◌≤◌, ◌<◌, ℕ, List, [], ◌∷◌, length, Option, Some, None, IfSome, MatchOption, if◌then◌else◌, codes, ⊤, ◌⊎◌}
-use Rattle.std.specs.List.{starts_with}
+use Rattle.std.specs.Prelude.{◌≡◌, ◌≤◌, ◌<◌, ℕ, List, [], ◌∷◌, length, Option, Some, None, codes, ⊤, ◌⊎◌}
 use Rattle.mpt_base.specs.Outside.{Files, Appends, AppendsPrefix}
 use Rattle.mpt_base.specs.declared.fault.Reason.{Reason}
 use Rattle.mpt_spec.specs.declared.tables.Tables.{Tables}
@@ -43,28 +43,37 @@ IsShowAnswer name (Some image) status text =
     ((image_limit < length image) × (status ≡ 10) × (text ≡ too_large_line name (length image)))
     ⊎ ((length image ≤ image_limit) × IsImageAnswer image status text)
 
+-- the answer of `show` to what the file of that name is
+abbrev pub IsFileAnswer : List ℕ → Option Files → ℕ → List ℕ → Type 0
+IsFileAnswer name told status text = (held : Option (List ℕ)) × Holds told name held × IsShowAnswer name held status text
+
+-- a failed read of a file that the words name
+abbrev pub IsCannotRead : List ℕ → ℕ → List ℕ → Type 0
+IsCannotRead name status text = (status ≡ 4) × (text ≡ cannot_read_line name)
+
+-- want of memory, which comes only behind a file that is there and within its limit
+abbrev pub IsNoMemory : List ℕ → Option Files → ℕ → List ℕ → Type 0
+IsNoMemory name told status text = (image : List ℕ) × Holds told name (Some image) × (length image ≤ image_limit) × (status ≡ 9) × (text ≡ no_memory_line)
+
+-- what `show` owes: its answer, or a failed read or want of memory in its place
+abbrev pub IsShowDue : List ℕ → Option Files → ℕ → List ℕ → Type 0
+IsShowDue name told status text = IsFileAnswer name told status text ⊎ (IsCannotRead name status text ⊎ IsNoMemory name told status text)
+
+-- the words are no listed form
+abbrev pub IsNoForm : List (List ℕ) → Type 0
+IsNoForm words = (name : List ℕ) → ¬ IsShow words name
+
 -- the answer to words that are no listed form
 abbrev pub IsUsageAnswer : List (List ℕ) → ℕ → List ℕ → Type 0
-IsUsageAnswer words status text = ((name : List ℕ) → ¬ IsShow words name) × (status ≡ 2) × (text ≡ usage_line)
+IsUsageAnswer words status text = IsNoForm words × (status ≡ 2) × (text ≡ usage_line)
 
 -- the answer of the walk over words and files
 abbrev pub IsAnswer : List (List ℕ) → Option Files → ℕ → List ℕ → Type 0
-IsAnswer words told status text =
-    IsUsageAnswer words status text
-    ⊎ ((name : List ℕ) × IsShow words name × (held : Option (List ℕ)) × Holds told name held × IsShowAnswer name held status text)
-
--- a failed read of a file that the words name
-abbrev pub IsCannotRead : List (List ℕ) → ℕ → List ℕ → Type 0
-IsCannotRead words status text = (name : List ℕ) × IsShow words name × (status ≡ 4) × (text ≡ cannot_read_line name)
-
--- want of memory, which comes only behind a file that is there and within its limit
-abbrev pub IsNoMemory : List (List ℕ) → Option Files → ℕ → List ℕ → Type 0
-IsNoMemory words told status text =
-    (name : List ℕ) × IsShow words name × (image : List ℕ) × Holds told name (Some image) × (length image ≤ image_limit) × (status ≡ 9) × (text ≡ no_memory_line)
+IsAnswer words told status text = IsUsageAnswer words status text ⊎ ((name : List ℕ) × IsShow words name × IsFileAnswer name told status text)
 
 -- what is due: the answer of the walk, or a failed read or want of memory in its place
 abbrev pub IsDue : List (List ℕ) → Option Files → ℕ → List ℕ → Type 0
-IsDue words told status text = IsAnswer words told status text ⊎ (IsCannotRead words status text ⊎ IsNoMemory words told status text)
+IsDue words told status text = IsUsageAnswer words status text ⊎ ((name : List ℕ) × IsShow words name × IsShowDue name told status text)
 
 -- the whole text came to what was written, or, with status 5, a first part of it
 abbrev pub IsDelivered : ℕ → ℕ → List ℕ → Option (List ℕ) → Option (List ℕ) → Type 0
