@@ -36,6 +36,10 @@ IsImageAnswer image status text =
     ⊎ (((status ≡ 6) × HasNoPointer image × (text ≡ no_pointer_line))
     ⊎ ((status ≡ 7) × (at : ℕ) × (why : Reason) × IsFirstFault image at why × (text ≡ fault_line at why)))
 
+-- the answer of `show` to an image, or want of memory in its place
+abbrev pub IsImageDue : List ℕ → ℕ → List ℕ → Type 0
+IsImageDue image status text = IsImageAnswer image status text ⊎ ((status ≡ 9) × (text ≡ no_memory_line))
+
 -- the answer of `show` to a file: it isn't there, or passes its limit, or the answer to the image
 abbrev pub IsShowAnswer : List ℕ → Option (List ℕ) → ℕ → List ℕ → Type 0
 IsShowAnswer name None status text = (status ≡ 3) × (text ≡ no_file_line name)

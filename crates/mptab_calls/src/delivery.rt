@@ -1,9 +1,11 @@
 //! The delivery of a text to a sink, in pieces none of which is empty.
 
-ghost use Rattle.std.specs.Prelude.{◌≡◌, ◌≤◌, map, OnOk, OnErr};
+ghost use Rattle.std.specs.Prelude.{◌≡◌, ◌≢◌, ◌≤◌, map, OnOk, OnErr};
 ghost use Rattle.mpt_base.specs.Outside.{Rose, Appends, AppendsPrefix};
 ghost use Rattle.mpt_listing.specs.Listing.{line};
+ghost use Rattle.mptab_calls.specs.Answer.{IsDelivered};
 
+use crate::status::CANNOT_WRITE;
 use mpt_base::{Failed, Sink};
 
 /// The bytes of a piece; the last may be shorter.
@@ -40,4 +42,26 @@ pub(crate) fn put_line<O: Sink>(out: &mut O, parts: &[&[u8]]) -> Result<(), Fail
         }
     }
     put_text(out, b"\n")
+}
+
+/// Delivers a text. The status is the answer's, or that of a sink that failed.
+pub(crate) fn deliver_text<O: Sink>(out: &mut O, status: u8, text: &[u8]) -> u8
+    ensures delivered { IsDelivered result status text.now (O.written out.old) (O.written out.new) }
+    ensures unwritten { status ≢ 5 → result ≡ 5 → Rose (O.faults out.old) (O.faults out.new) }
+{
+    match put_text(out, text) {
+        Ok(()) => status,
+        Err(Failed) => CANNOT_WRITE,
+    }
+}
+
+/// Delivers a line of these parts, without taking memory.
+pub(crate) fn deliver_line<O: Sink>(out: &mut O, status: u8, parts: &[&[u8]]) -> u8
+    ensures delivered { IsDelivered result status (line (map (λ part. part.now) parts.now)) (O.written out.old) (O.written out.new) }
+    ensures unwritten { status ≢ 5 → result ≡ 5 → Rose (O.faults out.old) (O.faults out.new) }
+{
+    match put_line(out, parts) {
+        Ok(()) => status,
+        Err(Failed) => CANNOT_WRITE,
+    }
 }

@@ -2,5 +2,11 @@
 //! delivery of the answer.
 #![tactic(auto)]
 
+mod calls;
 mod delivery;
 mod file;
+mod image;
+mod show;
+mod status;
+
+pub use calls::{run, run_still};

@@ -1,0 +1,20 @@
+//! The statuses with which the program ends (docs/FORMATS.md).
+
+/// The defined text was written.
+pub(crate) const DONE: u8 = 0;
+/// The words are no listed form.
+pub(crate) const USAGE: u8 = 2;
+/// A file isn't there.
+pub(crate) const NO_FILE: u8 = 3;
+/// The shelf failed.
+pub(crate) const CANNOT_READ: u8 = 4;
+/// The sink failed.
+pub(crate) const CANNOT_WRITE: u8 = 5;
+/// There is no floating pointer.
+pub(crate) const NO_POINTER: u8 = 6;
+/// The tables are refused.
+pub(crate) const REFUSED: u8 = 7;
+/// Memory ran out.
+pub(crate) const NO_MEMORY: u8 = 9;
+/// A file passes its limit.
+pub(crate) const TOO_LARGE: u8 = 10;
