@@ -9,3 +9,4 @@ pub mod FirstFaultLemmas
 pub mod ExampleLemmas
 pub mod FaultExamples
 pub mod WrittenTableLemmas
+pub mod WrittenImageLemmas

@@ -17,7 +17,7 @@ use Rattle.mpt_spec.specs.Table.{IsHeaderAt, IsConfigurationTable, HasChecksum, 
 use Rattle.mpt_spec.specs.Canonical.{IsLawfulExt, IsWellFormedTable, base_size, ext_size}
 use Rattle.mpt_spec.specs.Image.{base_bytes, ext_bytes, header_bytes, base_table_bytes, table_bytes, checksum_of}
 use Rattle.mpt_spec.specs.Values.{AreBytes, IsBaseValue, IsExtValue, IsTableValue}
-use Rattle.mpt_spec.proofs.ByteLemmas.{slice_index-append, number_at-append, part-append, take-append_whole, take_whole, number_at-to_le_bytes_2, number_at-to_le_bytes_4, sum-cell, sealed}
+use Rattle.mpt_spec.proofs.ByteLemmas.{slice_index-behind, number_at-behind, part-behind, take-append_whole, take_whole, number_at-to_le_bytes_2, number_at-to_le_bytes_4, sum-cell, sealed}
 use Rattle.mpt_spec.proofs.WrittenLemmas.{IsBaseEntryAt-written, IsExtEntryAt-written}
 
 -- entries of any kind: what is spelled one after another stands end to end
@@ -97,16 +97,6 @@ header-parts : (t : Table) (base_len ext_len checksum ext_checksum : ℕ) (rest 
     ≡ header_front base_len t.revision checksum ++ (t.oem ++ (t.product ++ (header_back t ext_len ext_checksum ++ rest)))
 header-parts t base_len ext_len checksum ext_checksum rest = simp append_assoc
 
--- what is read behind some bytes
-number_at-behind : (n : ℕ) (image front bytes : List ℕ) (at i : ℕ) → image ≡ front ++ bytes → at ≡ length front + i → number_at n image at ≡ number_at n bytes i
-number_at-behind n image front bytes at i e p = rw (e, p) (number_at-append n front bytes i)
-
-slice_index-behind : (image front bytes : List ℕ) (at i : ℕ) → image ≡ front ++ bytes → at ≡ length front + i → slice_index image at ≡ slice_index bytes i
-slice_index-behind image front bytes at i e p = rw (e, p) (slice_index-append front bytes i)
-
-part-behind : (n : ℕ) (image front bytes : List ℕ) (at i : ℕ) → image ≡ front ++ bytes → at ≡ length front + i → part image at n ≡ part bytes i n
-part-behind n image front bytes at i e p = rw (e, p) (part-append front bytes i n)
-
 -- the fields of a header that is spelled at a place, with its lengths, its count and its extended checksum
 record IsSpelledHeaderAt (t : Table) (base_len ext_len ext_checksum : ℕ) (image : List ℕ) (at : ℕ) : Type 0 where
   header : IsHeaderAt t image at
@@ -150,6 +140,16 @@ length-header t base_len ext_len checksum ext_checksum v =
     let back : List ℕ = header_back t ext_len ext_checksum in
     let same : length (header ++ []) ≡ length (header_front base_len t.revision checksum ++ (t.oem ++ (t.product ++ (back ++ [])))) = ap length (header-parts t base_len ext_len checksum ext_checksum []) in
     omega (arith, same, length-append header [], length-append t.oem (t.product ++ (back ++ [])), length-append t.product (back ++ []), v.oem.size, v.product.size)
+
+-- a table has the bytes of its base table and of its extended part
+pub length-table_bytes : (t : Table) → IsTableValue t → IsWellFormedTable t → length (table_bytes t) ≡ base_size t + ext_size t
+length-table_bytes t v w =
+    let entries : List ℕ = flat_map base_bytes t.base in
+    let ext_part : List ℕ = flat_map ext_bytes t.ext in
+    let checksum : ℕ = checksum_of (base_table_bytes t 0 ext_part) in
+    let header : List ℕ = header_bytes t (44 + length entries) (length ext_part) checksum (checksum_of ext_part) in
+    let header_long : length header ≡ 44 = length-header t (44 + length entries) (length ext_part) checksum (checksum_of ext_part) v in
+    length-append (header ++ entries) ext_part ∙ omega (arith, header_long, length-append header entries, length-base_part t.base v.base, length-ext_part t.ext v.ext w.lawful)
 
 -- a base entry has at least one byte
 entries_below_bytes : (es : List Base) → length es ≤ sum_by base_length es

@@ -1,7 +1,7 @@
 -- The values of the types: in a definition a field is any number, so a law over every entry has as its premise that its
 -- numbers fit their fields, a byte below 256 and so on (MultiProcessor Specification 1.4, figures 4-2 to 4-11).
 --     AreBytes bytes n     n bytes
---     IsBaseValue e, IsExtValue e, IsPointerValue p, IsTableValue t   the fields fit
+--     IsBaseValue e, IsExtValue e, IsPointerValue p, IsTableValue t, IsTablesValue tables   the fields fit
 use Rattle.std.specs.Prelude.{◌≡◌, ℕ, ◌^◌, ◌<◌, List, length}
 use Rattle.std.specs.List.{AllByRecursion}
 use Rattle.mpt_spec.specs.declared.pointer.Pointer.{Pointer}
@@ -18,6 +18,9 @@ use Rattle.mpt_spec.specs.declared.entry.Opaque.{Opaque}
 use Rattle.mpt_spec.specs.declared.entry.Ext.{Ext}
 use Rattle.mpt_spec.specs.declared.entry.Ext.TheVariants as ext
 use Rattle.mpt_spec.specs.declared.tables.Table.{Table}
+use Rattle.mpt_spec.specs.declared.tables.Body.{Body}
+use Rattle.mpt_spec.specs.declared.tables.Body.TheVariants as body
+use Rattle.mpt_spec.specs.declared.tables.Tables.{Tables}
 
 -- a list of n bytes
 pub record AreBytes (bytes : List ℕ) (n : ℕ) : Type 0 where
@@ -111,3 +114,14 @@ pub record IsTableValue (t : Table) : Type 0 where
   pub reserved : t.reserved < 256
   pub base : AllByRecursion IsBaseValue t.base
   pub ext : AllByRecursion IsExtValue t.ext
+
+-- a body
+abbrev pub IsBodyValue : Body → Type 0
+IsBodyValue (body.Default n) = n < 256
+IsBodyValue (body.Listed t) = IsTableValue t
+
+-- tables
+pub record IsTablesValue (tables : Tables) : Type 0 where
+  pub at : tables.at < 2 ^ 64
+  pub pointer : IsPointerValue tables.pointer
+  pub body : IsBodyValue tables.body

@@ -14,11 +14,11 @@ ghost use Rattle.mpt_spec.specs.Pointer.{IsFloatingPointer};
 ghost use Rattle.mpt_spec.specs.Search.{places_in, IsFirstPointerAt, HasNoPointer};
 ghost use Rattle.mpt_spec.specs.Entries.{IsBaseEntryAt};
 ghost use Rattle.mpt_spec.specs.Extended.{IsExtEntryAt};
-ghost use Rattle.mpt_spec.specs.Canonical.{IsLawfulExt, IsWellFormedTable};
+ghost use Rattle.mpt_spec.specs.Canonical.{IsLawfulExt, IsWellFormedTable, FitsInImage};
 ghost use Rattle.mpt_spec.specs.Table.{IsConfigurationTable, Describes};
 ghost use Rattle.mpt_spec.specs.Faults.{HasFaultAt, IsFirstFault};
-ghost use Rattle.mpt_spec.specs.Image.{base_bytes, ext_bytes, table_bytes, pointer_bytes};
-ghost use Rattle.mpt_spec.specs.Values.{IsBaseValue, IsExtValue, IsPointerValue, IsTableValue};
+ghost use Rattle.mpt_spec.specs.Image.{base_bytes, ext_bytes, table_bytes, pointer_bytes, image_of};
+ghost use Rattle.mpt_spec.specs.Values.{IsBaseValue, IsExtValue, IsPointerValue, IsTableValue, IsTablesValue};
 ghost use Rattle.mpt_spec.specs.Laws.{IsPlaceOf};
 
 /// The places of an area are the multiples of 16 in it that have 16 bytes before its end.
@@ -52,6 +52,12 @@ pub fn written_table_is_there()
 /// The bytes that are written for a floating pointer are that floating pointer.
 pub fn written_pointer_is_there()
     ensures { (p : Pointer) → IsPointerValue p → IsFloatingPointer p (pointer_bytes p) }
+{}
+
+/// The image that is written for tables that have a place in it is one of 1 MiB that describes them.
+pub fn written_image_describes_its_tables()
+    ensures size { (tables : Tables) → IsTablesValue tables → FitsInImage tables → length (image_of tables) ≡ 0x100000 }
+    ensures describes { (tables : Tables) → IsTablesValue tables → FitsInImage tables → Describes (image_of tables) tables }
 {}
 
 /// What stands at a place of an image is one configuration table at most, and an image describes at
