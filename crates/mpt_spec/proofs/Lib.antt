@@ -10,3 +10,4 @@ pub mod ExampleLemmas
 pub mod FaultExamples
 pub mod WrittenTableLemmas
 pub mod WrittenImageLemmas
+pub mod CanonicalLemmas

@@ -14,7 +14,7 @@ ghost use Rattle.mpt_spec.specs.Pointer.{IsFloatingPointer};
 ghost use Rattle.mpt_spec.specs.Search.{places_in, IsFirstPointerAt, HasNoPointer};
 ghost use Rattle.mpt_spec.specs.Entries.{IsBaseEntryAt};
 ghost use Rattle.mpt_spec.specs.Extended.{IsExtEntryAt};
-ghost use Rattle.mpt_spec.specs.Canonical.{IsLawfulExt, IsWellFormedTable, FitsInImage};
+ghost use Rattle.mpt_spec.specs.Canonical.{IsLawfulExt, IsWellFormedTable, FitsInImage, IsCanonical, canonical_of};
 ghost use Rattle.mpt_spec.specs.Table.{IsConfigurationTable, Describes};
 ghost use Rattle.mpt_spec.specs.Faults.{HasFaultAt, IsFirstFault};
 ghost use Rattle.mpt_spec.specs.Image.{base_bytes, ext_bytes, table_bytes, pointer_bytes, image_of};
@@ -76,4 +76,13 @@ pub fn first_fault_is_one()
 pub fn described_image_has_no_fault()
     ensures none_stands { (image : List ℕ) (t : Tables) (k : ℕ) (why : Reason) → Describes image t → ¬ HasFaultAt image t.at k why }
     ensures none_first { (image : List ℕ) (t : Tables) (k : ℕ) (why : Reason) → Describes image t → ¬ IsFirstFault image k why }
+{}
+
+/// The canonical form is canonical and its own canonical form. Canonical tables are theirs, and tables
+/// have a place in an image exactly where their canonical form has.
+pub fn canonical_form_is_canonical()
+    ensures canonical { (tables : Tables) → IsCanonical (canonical_of tables) }
+    ensures twice { (tables : Tables) → canonical_of (canonical_of tables) ≡ canonical_of tables }
+    ensures unchanged { (tables : Tables) → IsTablesValue tables → IsCanonical tables → canonical_of tables ≡ tables }
+    ensures fits { (tables : Tables) → FitsInImage (canonical_of tables) ↔ FitsInImage tables }
 {}
