@@ -11,3 +11,4 @@ pub mod FaultExamples
 pub mod WrittenTableLemmas
 pub mod WrittenImageLemmas
 pub mod CanonicalLemmas
+pub mod WellFormedLemmas

@@ -1,7 +1,7 @@
 //! Laws of the definitions, in the words of MultiProcessor Specification 1.4, chapter 4. A law is the
 //! contract of a function that does nothing: it holds of every area, image and table.
 
-ghost use Rattle.std.specs.Prelude.{◌≡◌, ◌↔◌, ℕ, List, ◌++◌, length};
+ghost use Rattle.std.specs.Prelude.{◌≡◌, ◌<◌, ◌^◌, ◌↔◌, ℕ, List, ◌++◌, length};
 ghost use Rattle.std.specs.List.{Contains};
 ghost use Rattle.mpt_base.specs.declared.fault.Reason.{Reason};
 ghost use Rattle.mpt_spec.specs.declared.entry.Base.{Base};
@@ -14,11 +14,11 @@ ghost use Rattle.mpt_spec.specs.Pointer.{IsFloatingPointer};
 ghost use Rattle.mpt_spec.specs.Search.{places_in, IsFirstPointerAt, HasNoPointer};
 ghost use Rattle.mpt_spec.specs.Entries.{IsBaseEntryAt};
 ghost use Rattle.mpt_spec.specs.Extended.{IsExtEntryAt};
-ghost use Rattle.mpt_spec.specs.Canonical.{IsLawfulExt, IsWellFormedTable, FitsInImage, IsCanonical, canonical_of};
+ghost use Rattle.mpt_spec.specs.Canonical.{IsLawfulExt, IsWellFormedTable, IsWellFormed, FitsInImage, IsCanonical, canonical_of};
 ghost use Rattle.mpt_spec.specs.Table.{IsConfigurationTable, Describes};
 ghost use Rattle.mpt_spec.specs.Faults.{HasFaultAt, IsFirstFault};
 ghost use Rattle.mpt_spec.specs.Image.{base_bytes, ext_bytes, table_bytes, pointer_bytes, image_of};
-ghost use Rattle.mpt_spec.specs.Values.{IsBaseValue, IsExtValue, IsPointerValue, IsTableValue, IsTablesValue};
+ghost use Rattle.mpt_spec.specs.Values.{IsByteList, IsBaseValue, IsExtValue, IsPointerValue, IsTableValue, IsTablesValue};
 ghost use Rattle.mpt_spec.specs.Laws.{IsPlaceOf};
 
 /// The places of an area are the multiples of 16 in it that have 16 bytes before its end.
@@ -72,10 +72,21 @@ pub fn first_fault_is_one()
     ensures { (image : List ℕ) (k j : ℕ) (why other : Reason) → IsFirstFault image k why → IsFirstFault image j other → (k ≡ j) × (why ≡ other) }
 {}
 
+/// The first fault of an image lies in it.
+pub fn first_fault_lies_inside()
+    ensures { (image : List ℕ) (k : ℕ) (why : Reason) → IsFirstFault image k why → k < length image }
+{}
+
 /// Where an image describes tables, no fault stands at their pointer, and so none is the first.
 pub fn described_image_has_no_fault()
     ensures none_stands { (image : List ℕ) (t : Tables) (k : ℕ) (why : Reason) → Describes image t → ¬ HasFaultAt image t.at k why }
     ensures none_first { (image : List ℕ) (t : Tables) (k : ℕ) (why : Reason) → Describes image t → ¬ IsFirstFault image k why }
+{}
+
+/// Tables that an image of bytes describes are well formed, and their floating pointer lies below 4 GiB.
+pub fn described_tables_are_well_formed()
+    ensures well_formed { (image : List ℕ) (tables : Tables) → IsByteList image → Describes image tables → IsWellFormed tables }
+    ensures below_4_gib { (image : List ℕ) (tables : Tables) → IsByteList image → Describes image tables → tables.at < 2 ^ 32 }
 {}
 
 /// The canonical form is canonical and its own canonical form. Canonical tables are theirs, and tables
