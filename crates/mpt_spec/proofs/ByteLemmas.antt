@@ -48,13 +48,13 @@ part-before n front bytes i h =
     ap (λ xs. take n xs) (drop-append-le i front bytes inside) ∙ take-append-le n (drop i front) bytes room
 
 -- sums of byte values, as they are written and as they are read
-two_bytes : (a b : ℕ) → a + 256 * (b + 256 * 0) ≡ a + b * 256
+pub two_bytes : (a b : ℕ) → a + 256 * (b + 256 * 0) ≡ a + b * 256
 two_bytes a b = omega arith
 
-four_bytes : (a b c d : ℕ) → a + 256 * (b + 256 * (c + 256 * (d + 256 * 0))) ≡ a + b * 256 + c * 65536 + d * 16777216
+pub four_bytes : (a b c d : ℕ) → a + 256 * (b + 256 * (c + 256 * (d + 256 * 0))) ≡ a + b * 256 + c * 65536 + d * 16777216
 four_bytes a b c d = omega arith
 
-eight_bytes : (a b c d e f g h : ℕ) → a + 256 * (b + 256 * (c + 256 * (d + 256 * (e + 256 * (f + 256 * (g + 256 * (h + 256 * 0))))))) ≡ a + b * 256 + c * 65536 + d * 16777216 + e * 4294967296 + f * 1099511627776 + g * 281474976710656 + h * 72057594037927936
+pub eight_bytes : (a b c d e f g h : ℕ) → a + 256 * (b + 256 * (c + 256 * (d + 256 * (e + 256 * (f + 256 * (g + 256 * (h + 256 * 0))))))) ≡ a + b * 256 + c * 65536 + d * 16777216 + e * 4294967296 + f * 1099511627776 + g * 281474976710656 + h * 72057594037927936
 eight_bytes a b c d e f g h = omega arith
 
 -- the number that is written low byte first is read

@@ -12,3 +12,4 @@ pub mod WrittenTableLemmas
 pub mod WrittenImageLemmas
 pub mod CanonicalLemmas
 pub mod WellFormedLemmas
+pub mod SpellingLemmas

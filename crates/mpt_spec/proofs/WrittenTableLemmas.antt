@@ -86,14 +86,14 @@ length-ext_part es v l =
     total IsExtEntryAt ext_length ext_bytes IsLawfulValue AreExtEntries (λ image from to e. e) (λ e es image from to h g. (h, g)) (λ e before after v. IsExtEntryAt-written e before after (length before) v.0 v.1 refl) (λ e v. length-ext_bytes e v.0) es (both es v l)
 
 -- the header before the OEM id, and behind the product id
-abbrev header_front : ℕ → ℕ → ℕ → List ℕ
+abbrev pub header_front : ℕ → ℕ → ℕ → List ℕ
 header_front base_len revision checksum = codes "PCMP" ++ to_le_bytes w16 base_len ++ revision ∷ checksum ∷ []
 
-abbrev header_back : Table → ℕ → ℕ → List ℕ
+abbrev pub header_back : Table → ℕ → ℕ → List ℕ
 header_back t ext_len ext_checksum =
     to_le_bytes w32 t.oem_table ++ to_le_bytes w16 t.oem_size ++ to_le_bytes w16 (length t.base) ++ to_le_bytes w32 t.local_address ++ to_le_bytes w16 ext_len ++ ext_checksum ∷ t.reserved ∷ []
 
-header-parts : (t : Table) (base_len ext_len checksum ext_checksum : ℕ) (rest : List ℕ) → header_bytes t base_len ext_len checksum ext_checksum ++ rest
+pub header-parts : (t : Table) (base_len ext_len checksum ext_checksum : ℕ) (rest : List ℕ) → header_bytes t base_len ext_len checksum ext_checksum ++ rest
     ≡ header_front base_len t.revision checksum ++ (t.oem ++ (t.product ++ (header_back t ext_len ext_checksum ++ rest)))
 header-parts t base_len ext_len checksum ext_checksum rest = simp append_assoc
 
@@ -134,12 +134,12 @@ header-written t base_len ext_len checksum ext_checksum before rest image at v b
       ext_checksum_there = slice_index-behind image (before ++ front ++ t.oem ++ t.product) (back ++ rest) (at + 42) 14 from_back (omega arith);
     }
 
-length-header : (t : Table) (base_len ext_len checksum ext_checksum : ℕ) → IsTableValue t → length (header_bytes t base_len ext_len checksum ext_checksum) ≡ 44
-length-header t base_len ext_len checksum ext_checksum v =
+pub length-header : (t : Table) (base_len ext_len checksum ext_checksum : ℕ) → length t.oem ≡ 8 → length t.product ≡ 12 → length (header_bytes t base_len ext_len checksum ext_checksum) ≡ 44
+length-header t base_len ext_len checksum ext_checksum oem product =
     let header : List ℕ = header_bytes t base_len ext_len checksum ext_checksum in
     let back : List ℕ = header_back t ext_len ext_checksum in
     let same : length (header ++ []) ≡ length (header_front base_len t.revision checksum ++ (t.oem ++ (t.product ++ (back ++ [])))) = ap length (header-parts t base_len ext_len checksum ext_checksum []) in
-    omega (arith, same, length-append header [], length-append t.oem (t.product ++ (back ++ [])), length-append t.product (back ++ []), v.oem.size, v.product.size)
+    omega (arith, same, length-append header [], length-append t.oem (t.product ++ (back ++ [])), length-append t.product (back ++ []))
 
 -- a table has the bytes of its base table and of its extended part
 pub length-table_bytes : (t : Table) → IsTableValue t → IsWellFormedTable t → length (table_bytes t) ≡ base_size t + ext_size t
@@ -148,7 +148,7 @@ length-table_bytes t v w =
     let ext_part : List ℕ = flat_map ext_bytes t.ext in
     let checksum : ℕ = checksum_of (base_table_bytes t 0 ext_part) in
     let header : List ℕ = header_bytes t (44 + length entries) (length ext_part) checksum (checksum_of ext_part) in
-    let header_long : length header ≡ 44 = length-header t (44 + length entries) (length ext_part) checksum (checksum_of ext_part) v in
+    let header_long : length header ≡ 44 = length-header t (44 + length entries) (length ext_part) checksum (checksum_of ext_part) v.oem.size v.product.size in
     length-append (header ++ entries) ext_part ∙ omega (arith, header_long, length-append header entries, length-base_part t.base v.base, length-ext_part t.ext v.ext w.lawful)
 
 -- a base entry has at least one byte
@@ -164,7 +164,7 @@ entries_below_bytes (e ∷ es) = omega (arith, sum_by-cons base_length e es, ent
   some (base.LocalInt e) = omega arith
 
 -- the checksum of the base table is a byte in the place of a zero
-sum-base_table : (t : Table) (checksum : ℕ) (ext_part : List ℕ) → sum (base_table_bytes t checksum ext_part) ≡ sum (base_table_bytes t 0 ext_part) + checksum
+pub sum-base_table : (t : Table) (checksum : ℕ) (ext_part : List ℕ) → sum (base_table_bytes t checksum ext_part) ≡ sum (base_table_bytes t 0 ext_part) + checksum
 sum-base_table t checksum ext_part =
     let entries : List ℕ = flat_map base_bytes t.base in
     let base_len : ℕ = 44 + length entries in
@@ -186,7 +186,7 @@ IsConfigurationTable-written t before after image at v w spelled here =
     let header : List ℕ = header_bytes t base_len (length ext_part) checksum (checksum_of ext_part) in
     let entries_long : length entries ≡ sum_by base_length t.base = length-base_part t.base v.base in
     let ext_long : length ext_part ≡ sum_by ext_length t.ext = length-ext_part t.ext v.ext w.lawful in
-    let header_long : length header ≡ 44 = length-header t base_len (length ext_part) checksum (checksum_of ext_part) v in
+    let header_long : length header ≡ 44 = length-header t base_len (length ext_part) checksum (checksum_of ext_part) v.oem.size v.product.size in
     let base_table : image ≡ before ++ (header ++ entries ++ (ext_part ++ after)) = spelled ∙ ap (λ x. before ++ x) (append_assoc (header ++ entries) ext_part after) in
     let all : image ≡ before ++ (header ++ (entries ++ (ext_part ++ after))) = base_table ∙ ap (λ x. before ++ x) (append_assoc header entries (ext_part ++ after)) in
     let from_entries : image ≡ before ++ header ++ (entries ++ (ext_part ++ after)) = all ∙ sym (append_assoc before header (entries ++ (ext_part ++ after))) in

@@ -3,6 +3,7 @@
 
 ghost use Rattle.std.specs.Prelude.{◌≡◌, ◌<◌, ◌^◌, ◌↔◌, ℕ, List, ◌++◌, length};
 ghost use Rattle.std.specs.List.{Contains};
+ghost use Rattle.mpt_base.specs.Bytes.{part};
 ghost use Rattle.mpt_base.specs.declared.fault.Reason.{Reason};
 ghost use Rattle.mpt_spec.specs.declared.entry.Base.{Base};
 ghost use Rattle.mpt_spec.specs.declared.entry.Ext.{Ext};
@@ -52,6 +53,13 @@ pub fn written_table_is_there()
 /// The bytes that are written for a floating pointer are that floating pointer.
 pub fn written_pointer_is_there()
     ensures { (p : Pointer) → IsPointerValue p → IsFloatingPointer p (pointer_bytes p) }
+{}
+
+/// What stands in an image of bytes is spelled in one way: a table and a floating pointer have there
+/// the bytes that are written for them.
+pub fn spelling_is_one()
+    ensures table { (t : Table) (image : List ℕ) (at : ℕ) → IsByteList image → IsConfigurationTable t image at → part image at (length (table_bytes t)) ≡ table_bytes t }
+    ensures pointer { (p : Pointer) (bytes : List ℕ) → IsByteList bytes → IsFloatingPointer p bytes → bytes ≡ pointer_bytes p }
 {}
 
 /// The image that is written for tables that have a place in it is one of 1 MiB that describes them.
