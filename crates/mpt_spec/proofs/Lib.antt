@@ -13,3 +13,4 @@ pub mod WrittenImageLemmas
 pub mod CanonicalLemmas
 pub mod WellFormedLemmas
 pub mod SpellingLemmas
+pub mod ValueLemmas

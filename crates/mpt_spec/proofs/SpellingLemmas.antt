@@ -26,10 +26,10 @@ use Rattle.mpt_spec.proofs.ByteLemmas.{take_whole, two_bytes, four_bytes, eight_
 use Rattle.mpt_spec.proofs.WrittenTableLemmas.{header_front, header_back, header-parts, length-header, sum-base_table}
 use Rattle.mpt_spec.proofs.CallerLemmas.{slice_index-part, number_at-part}
 
-length-part : (image : List ℕ) (at n : ℕ) → at + n ≤ length image → length (part image at n) ≡ n
+pub length-part : (image : List ℕ) (at n : ℕ) → at + n ≤ length image → length (part image at n) ≡ n
 length-part image at n h = length-take n (drop at image) ∙ omega (arith, length-drop at image)
 
-IsByteList-part : (image : List ℕ) (at n : ℕ) → IsByteList image → IsByteList (part image at n)
+pub IsByteList-part : (image : List ℕ) (at n : ℕ) → IsByteList image → IsByteList (part image at n)
 IsByteList-part image at n b i = by_place (cases_lt i n)
   where
   by_place : (i < n) ⊎ (n ≤ i) → slice_index (part image at n) i < 256
@@ -238,6 +238,13 @@ module _ (image : List ℕ) (b : IsByteList image) where
       let checksum : there ≡ written = unsealed (sum (base_table_bytes t 0 ext_part)) (sum (base_table_bytes t there ext_part)) there (sum-base_table t there ext_part) whole (b (at + 7)) in
       subst (λ x. IsSpelledAt image at (base_table_bytes t x ext_part ++ ext_part)) checksum
         (spelled-append at (base_end image at) (base_table_bytes t there ext_part) ext_part (ap (λ n. at + n) (sym long)) table exts.0)
+
+-- an entry that stands in an image of bytes has there the bytes that are written for it
+pub IsBaseEntryAt-spelled : (e : Base) (image : List ℕ) (at : ℕ) → IsByteList image → at + base_length e ≤ length image → IsBaseEntryAt e image at → part image at (length (base_bytes e)) ≡ base_bytes e
+IsBaseEntryAt-spelled e image at b i h = (base_entry_spelled image b e at i h).there
+
+pub IsExtEntryAt-spelled : (e : Ext) (image : List ℕ) (at : ℕ) → IsByteList image → at + ext_length e ≤ length image → IsExtEntryAt e image at → part image at (length (ext_bytes e)) ≡ ext_bytes e
+IsExtEntryAt-spelled e image at b i h = (ext_entry_spelled image b e at i h).there
 
 -- a table that stands in an image of bytes has there the bytes that are written for it
 pub IsConfigurationTable-spelled : (t : Table) (image : List ℕ) (at : ℕ) → IsByteList image → IsConfigurationTable t image at → part image at (length (table_bytes t)) ≡ table_bytes t

@@ -1,7 +1,7 @@
 //! Laws of the definitions, in the words of MultiProcessor Specification 1.4, chapter 4. A law is the
 //! contract of a function that does nothing: it holds of every area, image and table.
 
-ghost use Rattle.std.specs.Prelude.{◌≡◌, ◌<◌, ◌^◌, ◌↔◌, ℕ, List, ◌++◌, length};
+ghost use Rattle.std.specs.Prelude.{◌≡◌, ◌+◌, ◌≤◌, ◌<◌, ◌^◌, ◌↔◌, ℕ, List, ◌++◌, length};
 ghost use Rattle.std.specs.List.{Contains};
 ghost use Rattle.mpt_base.specs.Bytes.{part};
 ghost use Rattle.mpt_base.specs.declared.fault.Reason.{Reason};
@@ -13,8 +13,8 @@ ghost use Rattle.mpt_spec.specs.declared.tables.Table.{Table};
 ghost use Rattle.mpt_spec.specs.declared.tables.Tables.{Tables};
 ghost use Rattle.mpt_spec.specs.Pointer.{IsFloatingPointer};
 ghost use Rattle.mpt_spec.specs.Search.{places_in, IsFirstPointerAt, HasNoPointer};
-ghost use Rattle.mpt_spec.specs.Entries.{IsBaseEntryAt};
-ghost use Rattle.mpt_spec.specs.Extended.{IsExtEntryAt};
+ghost use Rattle.mpt_spec.specs.Entries.{IsBaseEntryAt, base_length};
+ghost use Rattle.mpt_spec.specs.Extended.{IsExtEntryAt, ext_length};
 ghost use Rattle.mpt_spec.specs.Canonical.{IsLawfulExt, IsWellFormedTable, IsWellFormed, FitsInImage, IsCanonical, canonical_of};
 ghost use Rattle.mpt_spec.specs.Table.{IsConfigurationTable, Describes};
 ghost use Rattle.mpt_spec.specs.Faults.{HasFaultAt, IsFirstFault};
@@ -55,9 +55,11 @@ pub fn written_pointer_is_there()
     ensures { (p : Pointer) → IsPointerValue p → IsFloatingPointer p (pointer_bytes p) }
 {}
 
-/// What stands in an image of bytes is spelled in one way: a table and a floating pointer have there
-/// the bytes that are written for them.
+/// What stands in an image of bytes is spelled in one way: an entry, a table and a floating pointer have
+/// there the bytes that are written for them.
 pub fn spelling_is_one()
+    ensures base { (e : Base) (image : List ℕ) (at : ℕ) → IsByteList image → at + base_length e ≤ length image → IsBaseEntryAt e image at → part image at (length (base_bytes e)) ≡ base_bytes e }
+    ensures ext { (e : Ext) (image : List ℕ) (at : ℕ) → IsByteList image → at + ext_length e ≤ length image → IsExtEntryAt e image at → part image at (length (ext_bytes e)) ≡ ext_bytes e }
     ensures table { (t : Table) (image : List ℕ) (at : ℕ) → IsByteList image → IsConfigurationTable t image at → part image at (length (table_bytes t)) ≡ table_bytes t }
     ensures pointer { (p : Pointer) (bytes : List ℕ) → IsByteList bytes → IsFloatingPointer p bytes → bytes ≡ pointer_bytes p }
 {}
@@ -91,9 +93,11 @@ pub fn described_image_has_no_fault()
     ensures none_first { (image : List ℕ) (t : Tables) (k : ℕ) (why : Reason) → Describes image t → ¬ IsFirstFault image k why }
 {}
 
-/// Tables that an image of bytes describes are well formed, and their floating pointer lies below 4 GiB.
+/// Tables that an image of bytes describes are well formed, their fields fit, and their floating pointer
+/// lies below 4 GiB.
 pub fn described_tables_are_well_formed()
     ensures well_formed { (image : List ℕ) (tables : Tables) → IsByteList image → Describes image tables → IsWellFormed tables }
+    ensures values { (image : List ℕ) (tables : Tables) → IsByteList image → Describes image tables → IsTablesValue tables }
     ensures below_4_gib { (image : List ℕ) (tables : Tables) → IsByteList image → Describes image tables → tables.at < 2 ^ 32 }
 {}
 
