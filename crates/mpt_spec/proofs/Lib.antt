@@ -1,2 +1,11 @@
 pub mod EntryLemmas
 pub mod SearchLemmas
+pub mod CallerLemmas
+pub mod ByteLemmas
+pub mod WrittenLemmas
+pub mod TableLemmas
+pub mod FaultLemmas
+pub mod FirstFaultLemmas
+pub mod ExampleLemmas
+pub mod FaultExamples
+pub mod WrittenTableLemmas

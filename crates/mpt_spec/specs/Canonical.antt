@@ -5,7 +5,7 @@
 --     canonical_of tables          base entries in the order of their types, reserved bits zero
 --     IsCanonical tables           reserved bits are zero, and no base entry has a type below that of the entry before it
 --     FitsInImage tables           they have a place in an image of 1 MiB
-use Rattle.std.specs.Prelude.{◌≡◌, ◌≢◌, ◌==◌, ℕ, ◌+◌, ◌*◌, ◌/◌, ◌%◌, ◌≤◌, ◌<◌, ◌⊎◌, List, [], ◌∷◌, ◌++◌, length, map, filter, sum_by, slice_index, replicate, ⊤}
+use Rattle.std.specs.Prelude.{◌≡◌, ◌≢◌, ◌==◌, ℕ, ◌+◌, ◌*◌, ◌/◌, ◌%◌, ◌≤◌, ◌<◌, ◌⊎◌, List, [], ◌∷◌, length, map, filter, sum_by, slice_index, replicate, ⊤}
 use Rattle.std.specs.List.{AllByRecursion, flat_map}
 use Rattle.mpt_spec.specs.declared.pointer.Pointer.{Pointer}
 use Rattle.mpt_spec.specs.declared.entry.Base.{Base}

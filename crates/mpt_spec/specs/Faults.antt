@@ -10,7 +10,7 @@ use Rattle.mpt_spec.specs.declared.entry.Base.{Base}
 use Rattle.mpt_spec.specs.Search.{IsFirstPointerAt}
 use Rattle.mpt_spec.specs.Entries.{AreBaseEntries, IsUnknownEntryIn, IsCutEntryIn}
 use Rattle.mpt_spec.specs.Extended.{IsBadExtTypeIn, IsBadExtLengthIn, IsCutExtEntryIn}
-use Rattle.mpt_spec.specs.Table.{base_length_at, count_at, ext_length_at, base_end, ext_end, HasBaseInside, HasExtInside, HasChecksum, HasExtChecksum}
+use Rattle.mpt_spec.specs.Table.{base_length_at, count_at, base_end, ext_end, HasBaseInside, HasExtInside, HasChecksum, HasExtChecksum}
 
 -- the address of the table (offset 4 of the floating pointer)
 abbrev pub address_at : List ℕ → ℕ → ℕ
