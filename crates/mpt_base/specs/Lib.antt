@@ -1,3 +1,9 @@
 pub mod Bytes
+pub mod Count
+pub mod FileShelf
+pub mod MemShelf
+pub mod MemSink
+pub mod NumberLaws
+pub mod OutSink
 pub mod Outside
 pub mod Reason

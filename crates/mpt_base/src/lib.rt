@@ -3,9 +3,21 @@
 #![tactic(auto)]
 
 mod fault;
+mod file_shelf;
+mod laws;
+mod mem_shelf;
+mod mem_sink;
 mod numbers;
+mod out_sink;
 mod outside;
+#[cfg(test)]
+mod tests;
 
 pub use fault::{Fault, Reason};
-pub use numbers::{sum8, u16_at, u32_at, u64_at};
+pub use file_shelf::FileShelf;
+pub use laws::{number_has_one_spelling, number_is_below_power, number_is_that_of_its_part};
+pub use mem_shelf::MemShelf;
+pub use mem_sink::MemSink;
+pub use numbers::{bytes_at, part_at, sum8, u16_at, u32_at, u64_at};
+pub use out_sink::OutSink;
 pub use outside::{Failed, NoMemory, Shelf, Sink};

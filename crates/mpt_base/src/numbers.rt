@@ -2,7 +2,7 @@
 //! (chapter 4: multi-byte fields are little-endian, a checksum makes its bytes sum to zero).
 
 ghost use Rattle.std.specs.Prelude.{◌≡◌, ◌+◌, ◌%◌, ◌≤◌, length, sum};
-ghost use Rattle.mpt_base.specs.Bytes.{number_at};
+ghost use Rattle.mpt_base.specs.Bytes.{number_at, part};
 
 use byteorder::{ByteOrder, LittleEndian};
 
@@ -28,6 +28,27 @@ pub fn u64_at(bytes: &[u8], at: usize) -> u64
     ensures { result ≡ number_at 8 bytes.now at }
 {
     LittleEndian::read_u64(&bytes[at..])
+}
+
+/// The `N` bytes from `at` on.
+pub fn bytes_at<const N: usize>(bytes: &[u8], at: usize) -> [u8; N]
+    requires { at + N ≤ length bytes.now }
+    ensures { result ≡ part bytes.now at N }
+{
+    match part_at(bytes, at, N).first_chunk::<N>() {
+        Some(chunk) => *chunk,
+        None => unreachable!(),
+    }
+}
+
+/// The `len` bytes from `at` on, as a slice.
+pub fn part_at(bytes: &[u8], at: usize, len: usize) -> &[u8]
+    requires { at + len ≤ length bytes.now }
+    ensures { result.now ≡ part bytes.now at len }
+{
+    let (_, rest) = bytes.split_at(at);
+    let (front, _) = rest.split_at(len);
+    front
 }
 
 /// The sum of the bytes modulo 256. Bytes with a right checksum have the sum 0.

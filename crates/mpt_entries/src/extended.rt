@@ -1,14 +1,14 @@
 //! The extended entries (MultiProcessor Specification 1.4, section 4.4, figures 4-9 to 4-11).
 
 ghost use Rattle.std.specs.Prelude.{◌≡◌, ◌+◌, ◌≤◌, ◌<◌, ℕ, List, length, slice_index, IfOk, IfErr, IsTrue, ◌↔◌};
-ghost use Rattle.mpt_base.specs.declared.fault.Reason.{Reason as ReasonOf};
-ghost use Rattle.mpt_spec.specs.declared.entry.Ext.{Ext as ExtOf};
+ghost use Rattle.mpt_base.specs.declared.fault.Reason.{Reason};
+ghost use Rattle.mpt_spec.specs.declared.entry.Ext.{Ext};
 ghost use Rattle.mpt_spec.specs.Extended.{IsSpaceAt, IsHierarchyAt, IsModifierAt, IsOpaqueAt, IsExtEntryAt, AreExtEntries, IsExtFaultIn, IsLengthOfExtType, ext_length};
 ghost use Rattle.mpt_entries.specs.Answers.{IfFault, AnswersEntries, AnswersFault};
 
 use crate::fields::{bytes_at, read_field, read_fields};
 use crate::layouts::{hierarchy_layout, modifier_layout, space_layout};
-use crate::stop::Stop;
+use crate::stop::{Stop, fault_at};
 use mpt_base::{Fault, Reason, u32_at, u64_at};
 use mpt_spec::{Ext, Hierarchy, Modifier, Opaque, Sequence, Space};
 use std::alloc::{AllocError, Global};
@@ -84,29 +84,17 @@ fn length_at(bytes: &[u8], at: usize, to: usize) -> Result<usize, Fault>
     ensures fault { IfErr result (λ f. IsExtFaultIn bytes.now at to f.at f.why) }
 {
     if bytes[at] < SPACE {
-        return Err(Fault {
-            at: at as u64,
-            why: Reason::BadExtType,
-        });
+        return Err(fault_at(at, Reason::BadExtType));
     }
     if to - at == 1 {
-        return Err(Fault {
-            at: at as u64,
-            why: Reason::CutExtEntry,
-        });
+        return Err(fault_at(at, Reason::CutExtEntry));
     }
     let length = bytes[at + 1];
     if !is_length_of_type(bytes[at], length) {
-        return Err(Fault {
-            at: at as u64 + 1,
-            why: Reason::BadExtLength,
-        });
+        return Err(fault_at(at + 1, Reason::BadExtLength));
     }
     if to - at < length as usize {
-        return Err(Fault {
-            at: at as u64,
-            why: Reason::CutExtEntry,
-        });
+        return Err(fault_at(at, Reason::CutExtEntry));
     }
     Ok(length as usize)
 }
@@ -135,8 +123,8 @@ pub fn read_ext(alloc: Global, bytes: &[u8], from: usize, to: usize) -> Result<V
     requires inside { to ≤ length bytes.now }
     ensures entries { IfOk result (λ es. AreExtEntries es.items bytes.now from to) }
     ensures fault { IfFault result (λ f. IsExtFaultIn bytes.now from to f.at f.why) }
-    ensures only_entries { (es : List ExtOf) → AreExtEntries es bytes.now from to → AnswersEntries result es }
-    ensures only_fault { (k : ℕ) (why : ReasonOf) → IsExtFaultIn bytes.now from to k why → AnswersFault result k why }
+    ensures only_entries { (es : List Ext) → AreExtEntries es bytes.now from to → AnswersEntries result es }
+    ensures only_fault { (k : ℕ) (why : Reason) → IsExtFaultIn bytes.now from to k why → AnswersFault result k why }
 {
     let mut entries = Vec::new(alloc);
     let mut at = from;

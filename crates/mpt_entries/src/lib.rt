@@ -7,6 +7,8 @@ mod extended;
 mod fields;
 mod layouts;
 mod stop;
+#[cfg(test)]
+mod tests;
 
 pub use base::read_base;
 pub use extended::read_ext;

@@ -3,7 +3,7 @@
 ghost use Rattle.std.specs.Prelude.{◌≡◌};
 ghost use Rattle.mpt_entries.specs.declared.stop.Stop.TheVariants as stop;
 
-use mpt_base::Fault;
+use mpt_base::{Fault, Reason};
 use std::alloc::{AllocError, AllocFailed};
 
 /// Why entries aren't read.
@@ -37,4 +37,12 @@ impl<T: Drop> From<AllocFailed<T>> for Stop {
     fn from(_failed: AllocFailed<T>) -> Stop {
         Stop::NoMemory
     }
+}
+
+// the fault at an offset in the bytes
+pub(crate) fn fault_at(at: usize, why: Reason) -> Fault
+    ensures place { result.at ≡ at }
+    ensures reason { result.why ≡ why }
+{
+    Fault { at: at as u64, why }
 }

@@ -1,1 +1,10 @@
+//! The MP floating pointer structure and the search for it (MultiProcessor Specification 1.4,
+//! section 4.1).
 #![tactic(auto)]
+
+mod reading;
+mod search;
+
+pub use mpt_spec::{Area, Pointer};
+pub use reading::{pointer_at, read_pointer};
+pub use search::{areas, find};

@@ -27,6 +27,7 @@ small_table_there = record {
 }
 
 pub Describes-small : Describes small_image small_tables
+unfolding search_places
 Describes-small = record {
   first = small_pointer_first one_processor_bytes (0x510 ∷ 0x520 ∷ 0x530 ∷ 0x540 ∷ []) refl;
   tables_there = record { pointer = small_pointer_there one_processor_bytes; revision = refl; body = (refl, omega arith, small_table_there) };
@@ -37,6 +38,7 @@ abbrev extended_bytes : List ℕ
 extended_bytes = header_with 0x40 0x61 1 2 0x36 ++ entry_with 0 ++ 0xC8 ∷ 2 ∷ []
 
 pub Describes-extended : Describes (small_image_with extended_bytes) extended_tables
+unfolding search_places
 Describes-extended = record {
   first = small_pointer_first extended_bytes (0x510 ∷ 0x520 ∷ 0x530 ∷ 0x540 ∷ []) refl;
   tables_there = record {
@@ -63,6 +65,7 @@ default_pointer_there : IsFloatingPointer (default_tables 5).pointer (part (defa
 default_pointer_there = record { size = refl; signature = refl; address = refl; paragraphs = refl; revision = refl; features = refl; checksum = refl }
 
 pub Describes-default : Describes (default_image 5 0x9B) (default_tables 5)
+unfolding search_places
 Describes-default = record {
   first = record { before = []; after = []; split = refl; none_before = tt; holds = ((default_tables 5).pointer, default_pointer_there) };
   tables_there = record { pointer = default_pointer_there; revision = refl; body = (refl, omega arith, omega arith) };
@@ -75,6 +78,7 @@ wrong_sum : ¬ HasPointerAt second_place_image 0x500
 wrong_sum h = omega (arith, h.1.checksum)
 
 pub Describes-second_place : Describes second_place_image second_place_tables
+unfolding search_places
 Describes-second_place = record {
   first = record {
     before = 0x500 ∷ [];

@@ -28,6 +28,7 @@ short_length_least j why.BadSignature h = absurd (h.1 refl)
 short_length_least j v h = omega (arith, HasTableFaultAt-offset (small_image_with short_length) 0x510 j v h)
 
 pub IsFirstFault-short_length : IsFirstFault (small_image_with short_length) 0x514 why.ShortLength
+unfolding search_places
 IsFirstFault-short_length = small_fault short_length (0x510 ∷ 0x520 ∷ 0x530 ∷ 0x540 ∷ []) 0x514 why.ShortLength refl (omega arith) (refl, omega arith) short_length_least
 
 abbrev bad_sum : List ℕ
@@ -41,6 +42,7 @@ bad_sum_least j why.BadRevision h = absurd (h.1 refl)
 bad_sum_least j v h = omega (arith, HasTableFaultAt-offset (small_image_with bad_sum) 0x510 j v h)
 
 pub IsFirstFault-bad_sum : IsFirstFault (small_image_with bad_sum) 0x517 why.BadSum
+unfolding search_places
 IsFirstFault-bad_sum =
     small_fault bad_sum (0x510 ∷ 0x520 ∷ 0x530 ∷ 0x540 ∷ []) 0x517 why.BadSum refl (omega arith) (refl, record { header = omega arith; inside = omega arith }, λ e. omega (arith, e)) bad_sum_least
 
@@ -59,6 +61,7 @@ abbrev one_entry : List Base
 one_entry = processor 0 0x10 3 0x520 0x1BF ∷ []
 
 pub IsFirstFault-bad_count : IsFirstFault (small_image_with bad_count) 0x532 why.BadCount
+unfolding search_places
 IsFirstFault-bad_count =
     let tiles : AreBaseEntries one_entry (small_image_with bad_count) 0x53C 0x550 = (record { type_byte = refl; apic = refl; version = refl; flags = refl; signature = refl; features = refl; reserved = refl }, refl) in
     small_fault bad_count (0x510 ∷ 0x520 ∷ 0x530 ∷ 0x540 ∷ []) 0x532 why.BadCount refl (omega arith) (refl, record { header = omega arith; inside = omega arith }, one_entry, tiles, λ e. omega (arith, e)) bad_count_least
@@ -67,6 +70,7 @@ abbrev cut_entry : List ℕ
 cut_entry = header_with 63 0x9A 1 0 0 ++ entry_with 0
 
 pub IsFirstFault-cut_entry : IsFirstFault (small_image_with cut_entry) 0x53C why.CutEntry
+unfolding search_places
 IsFirstFault-cut_entry =
     let image : List ℕ = small_image_with cut_entry in
     let sound : HasSoundHeader image 0x510 = record {
@@ -83,6 +87,7 @@ abbrev unknown_entry : List ℕ
 unknown_entry = header_with 0x40 0x94 1 0 0 ++ entry_with 5
 
 pub IsFirstFault-unknown_entry : IsFirstFault (small_image_with unknown_entry) 0x53C why.UnknownEntry
+unfolding search_places
 IsFirstFault-unknown_entry =
     let image : List ℕ = small_image_with unknown_entry in
     let sound : HasSoundHeader image 0x510 = record {
@@ -99,6 +104,7 @@ abbrev bad_ext_type : List ℕ
 bad_ext_type = header_with 0x40 0x18 1 2 0x7F ++ entry_with 0 ++ 0x7F ∷ 2 ∷ []
 
 pub IsFirstFault-bad_ext_type : IsFirstFault (small_image_with bad_ext_type) 0x550 why.BadExtType
+unfolding search_places
 IsFirstFault-bad_ext_type =
     let image : List ℕ = small_image_with bad_ext_type in
     let sound : HasSoundHeader image 0x510 = record {
@@ -116,6 +122,7 @@ abbrev cut_ext_entry : List ℕ
 cut_ext_entry = header_with 0x40 0x60 1 1 0x38 ++ entry_with 0 ++ 0xC8 ∷ []
 
 pub IsFirstFault-cut_ext_entry : IsFirstFault (small_image_with cut_ext_entry) 0x550 why.CutExtEntry
+unfolding search_places
 IsFirstFault-cut_ext_entry =
     let image : List ℕ = small_image_with cut_ext_entry in
     let sound : HasSoundHeader image 0x510 = record {
@@ -138,6 +145,7 @@ bad_default_least j why.BadDefault h = omega (arith, h.0)
 bad_default_least j _ h = absurd h
 
 pub IsFirstFault-bad_default : IsFirstFault (default_image 8 0x98) 0x50B why.BadDefault
+unfolding search_places
 IsFirstFault-bad_default =
     let there : IsFloatingPointer (default_tables 8).pointer (part (default_image 8 0x98) 0x500 16) =
     record { size = refl; signature = refl; address = refl; paragraphs = refl; revision = refl; features = refl; checksum = refl } in
@@ -152,6 +160,7 @@ no_table_least j why.BadDefault h = omega (arith, h.0)
 no_table_least j _ h = absurd h
 
 pub IsFirstFault-no_table : IsFirstFault (default_image 0 0xA0) 0x504 why.NoTable
+unfolding search_places
 IsFirstFault-no_table =
     let there : IsFloatingPointer (default_tables 0).pointer (part (default_image 0 0xA0) 0x500 16) =
     record { size = refl; signature = refl; address = refl; paragraphs = refl; revision = refl; features = refl; checksum = refl } in

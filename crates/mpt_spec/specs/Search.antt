@@ -36,7 +36,7 @@ abbrev pub places_in : Area → List ℕ
 places_in area = map (λ k. 16 * k) (range_with_len ((area.from + 15) / 16) (area.to / 16 - (area.from + 15) / 16))
 
 -- all places of the search: the words at 40Eh (the EBDA segment) and 413h (base memory in KiB) give the first area
-abbrev pub search_places : List ℕ → List ℕ
+unfoldable pub search_places : List ℕ → List ℕ
 search_places image = flat_map places_in (areas_of (word_at image 0x40E) (word_at image 0x413) (length image))
 
 -- x is the first member of xs at which P holds

@@ -1,0 +1,19 @@
+-- Laws of the numbers in bytes. A variable here ranges over every number, so that a byte is one below 256 by a premise.
+use Rattle.std.specs.Prelude.{◌≡◌, ℕ, ◌+◌, ◌^◌, ◌<◌, ◌≤◌, List, length, All}
+use Rattle.mpt_base.specs.Bytes.{le_number, number_at, part}
+
+-- each is a byte
+abbrev pub AreBytes : List ℕ → Type 0
+AreBytes bytes = All (λ b. b < 256) bytes
+
+-- a number has one spelling in bytes of each length
+abbrev pub HasOneSpelling : Type 0
+HasOneSpelling = (a b : List ℕ) → AreBytes a → AreBytes b → length a ≡ length b → le_number a ≡ le_number b → a ≡ b
+
+-- the number at a place is that of the bytes there
+abbrev pub IsNumberOfItsPart : Type 0
+IsNumberOfItsPart = (n : ℕ) (bytes : List ℕ) (at : ℕ) → at + n ≤ length bytes → number_at n bytes at ≡ le_number (part bytes at n)
+
+-- the number in n bytes is below 256 to the n
+abbrev pub IsBelowPower : Type 0
+IsBelowPower = (n : ℕ) (bytes : List ℕ) (at : ℕ) → AreBytes bytes → number_at n bytes at < 256 ^ n

@@ -1,0 +1,214 @@
+//! Entries spelled out by hand from the figures of MultiProcessor Specification 1.4, chapter 4.
+
+use crate::{
+    Base, Bus, Ext, Hierarchy, IntEntry, IoApic, Modifier, Processor, Space, Stop, read_base,
+    read_ext,
+};
+use mpt_base::{Fault, Reason};
+use std::alloc::Global;
+use std::test::Fail;
+
+// the fault of the base entries that the bytes are said to be
+fn base_fault(alloc: Global, bytes: &[u8]) -> Option<Stop> {
+    read_base(alloc, bytes, 0, bytes.len()).err()
+}
+
+// the fault of the extended entries that the bytes are said to be
+fn ext_fault(alloc: Global, bytes: &[u8]) -> Option<Stop> {
+    read_ext(alloc, bytes, 0, bytes.len()).err()
+}
+
+// the stop at a fault
+fn stop(at: u64, why: Reason) -> Option<Stop> {
+    Some(Stop::Fault(Fault { at, why }))
+}
+
+#[test]
+fn reads_one_processor(rt: HostRuntime) -> Result<(), Fail> {
+    let bytes = [
+        0x00, 0x00, 0x10, 0x03, 0x20, 0x05, 0x00, 0x00, 0xBF, 0x01, 0x00, 0x00, 0x00, 0x00, 0x00,
+        0x00, 0x00, 0x00, 0x00, 0x00,
+    ];
+    let entries = read_base(rt.alloc(), &bytes, 0, 20).ok().ok_or("not read")?;
+    let expected = [Base::Processor(Processor {
+        apic: 0x00,
+        version: 0x10,
+        flags: 0x03,
+        signature: 0x0000_0520,
+        features: 0x0000_01BF,
+        reserved: [0; 8],
+    })];
+    assert_eq!(rt; entries.as_slice(), expected.as_slice());
+    Ok(())
+}
+
+#[test]
+fn reads_each_base_entry_in_a_range(rt: HostRuntime) -> Result<(), Fail> {
+    let bytes = [
+        0xEE, 0xEE, 0xEE, // before the range
+        0x00, 0x07, 0x14, 0x02, 0x11, 0x22, 0x33, 0x44, 0x55, 0x66, 0x77, 0x88, // a processor
+        0xA0, 0xA1, 0xA2, 0xA3, 0xA4, 0xA5, 0xA6, 0xA7, // and its reserved bytes
+        0x01, 0x02, 0x50, 0x43, 0x49, 0x20, 0x20, 0x20, // a bus
+        0x02, 0x08, 0x11, 0x01, 0x00, 0x10, 0xC0, 0xFE, // an I/O APIC
+        0x03, 0x01, 0x0D, 0x80, 0x02, 0x21, 0x08, 0x13, // an I/O interrupt
+        0x04, 0x03, 0x00, 0x05, 0x01, 0x09, 0xFF, 0x01, // a local interrupt
+        0x05, // behind the range
+    ];
+    let entries = read_base(rt.alloc(), &bytes, 3, 55).ok().ok_or("not read")?;
+    let expected = [
+        Base::Processor(Processor {
+            apic: 0x07,
+            version: 0x14,
+            flags: 0x02,
+            signature: 0x4433_2211,
+            features: 0x8877_6655,
+            reserved: [0xA0, 0xA1, 0xA2, 0xA3, 0xA4, 0xA5, 0xA6, 0xA7],
+        }),
+        Base::Bus(Bus {
+            id: 0x02,
+            name: [0x50, 0x43, 0x49, 0x20, 0x20, 0x20],
+        }),
+        Base::IoApic(IoApic {
+            id: 0x08,
+            version: 0x11,
+            flags: 0x01,
+            address: 0xFEC0_1000,
+        }),
+        Base::IoInt(IntEntry {
+            kind: 1,
+            flags: 0x800D,
+            bus: 2,
+            irq: 0x21,
+            dest: 8,
+            pin: 0x13,
+        }),
+        Base::LocalInt(IntEntry {
+            kind: 3,
+            flags: 0x0500,
+            bus: 1,
+            irq: 9,
+            dest: 0xFF,
+            pin: 1,
+        }),
+    ];
+    assert_eq!(rt; entries.as_slice(), expected.as_slice());
+    Ok(())
+}
+
+#[test]
+fn tells_the_fault_of_base_entries(rt: HostRuntime) {
+    let cases: [(&[u8], Option<Stop>); 12] = [
+        (&[], None),
+        (&[0x05, 0, 0, 0, 0, 0, 0, 0], stop(0, Reason::UnknownEntry)),
+        (&[0xFF], stop(0, Reason::UnknownEntry)),
+        (&[0x00; 19], stop(0, Reason::CutEntry)),
+        (&[0x00, 0, 0, 0, 0, 0, 0, 0], stop(0, Reason::CutEntry)),
+        (&[0x01, 0, 0, 0, 0, 0, 0], stop(0, Reason::CutEntry)),
+        (&[0x02, 0, 0, 0, 0, 0, 0], stop(0, Reason::CutEntry)),
+        (&[0x03, 0, 0, 0, 0, 0, 0], stop(0, Reason::CutEntry)),
+        (&[0x04], stop(0, Reason::CutEntry)),
+        (
+            &[0x01, 0, 0, 0, 0, 0, 0, 0, 0x80],
+            stop(8, Reason::UnknownEntry),
+        ),
+        (
+            &[0x01, 0, 0, 0, 0, 0, 0, 0, 0x00],
+            stop(8, Reason::CutEntry),
+        ),
+        (&[0x01, 0, 0, 0, 0, 0, 0, 0], None),
+    ];
+    for (bytes, expected) in cases {
+        assert_eq!(rt; base_fault(rt.alloc(), bytes), expected, "for {bytes:?}");
+    }
+}
+
+#[test]
+fn reads_each_extended_entry_in_a_range(rt: HostRuntime) -> Result<(), Fail> {
+    let bytes = [
+        0x00, // before the range
+        0x80, 0x14, 0x01, 0x02, 0x08, 0x07, 0x06, 0x05, 0x04, 0x03, 0x02, 0x01, // an address space
+        0x00, 0x00, 0x02, 0x00, 0x00, 0x00, 0x00, 0x10, // and its length
+        0x81, 0x08, 0x01, 0x03, 0x02, 0xA1, 0xA2, 0xA3, // a bus hierarchy
+        0x82, 0x08, 0x04, 0x01, 0x01, 0x00, 0x00, 0x80, // an address modifier
+        0x83, 0x02, // an entry of another type, with nothing behind its length byte
+        0xC5, 0x05, 0x51, 0x52, 0x53, // one with three bytes
+        0x00, // behind the range
+    ];
+    let entries = read_ext(rt.alloc(), &bytes, 1, 44).ok().ok_or("not read")?;
+    match entries.as_slice() {
+        [
+            Ext::Space(space),
+            Ext::Hierarchy(hierarchy),
+            Ext::Modifier(modifier),
+            Ext::Opaque(short),
+            Ext::Opaque(long),
+        ] => {
+            let expected = Space {
+                bus: 1,
+                kind: 2,
+                base: 0x0102_0304_0506_0708,
+                length: 0x1000_0000_0002_0000,
+            };
+            assert_eq!(rt; *space, expected);
+            let expected = Hierarchy {
+                bus: 1,
+                info: 3,
+                parent: 2,
+                reserved: [0xA1, 0xA2, 0xA3],
+            };
+            assert_eq!(rt; *hierarchy, expected);
+            assert_eq!(rt;
+                *modifier,
+                Modifier {
+                    bus: 4,
+                    flags: 1,
+                    ranges: 0x8000_0001
+                }
+            );
+            assert_eq!(rt; short.kind, 0x83);
+            assert_eq!(rt; short.rest.as_slice(), [].as_slice());
+            assert_eq!(rt; long.kind, 0xC5);
+            assert_eq!(rt; long.rest.as_slice(), [0x51, 0x52, 0x53].as_slice());
+        }
+        _ => assert!(rt; false, "other entries"),
+    }
+    Ok(())
+}
+
+#[test]
+fn reads_the_longest_extended_entry(rt: HostRuntime) -> Result<(), Fail> {
+    let mut bytes = [0x5A; 255];
+    bytes[0] = 0xFF;
+    bytes[1] = 0xFF;
+    let entries = read_ext(rt.alloc(), &bytes, 0, 255).ok().ok_or("not read")?;
+    match entries.as_slice() {
+        [Ext::Opaque(opaque)] => assert_eq!(rt; opaque.rest.as_slice(), [0x5A; 253].as_slice()),
+        _ => assert!(rt; false, "other entries"),
+    }
+    Ok(())
+}
+
+#[test]
+fn tells_the_fault_of_extended_entries(rt: HostRuntime) {
+    let cases: [(&[u8], Option<Stop>); 16] = [
+        (&[], None),
+        (&[0x7F, 8, 0, 0, 0, 0, 0, 0], stop(0, Reason::BadExtType)),
+        (&[0x00], stop(0, Reason::BadExtType)),
+        (&[0x80], stop(0, Reason::CutExtEntry)),
+        (&[0xFF], stop(0, Reason::CutExtEntry)),
+        (&[0x80, 19], stop(1, Reason::BadExtLength)),
+        (&[0x81, 9], stop(1, Reason::BadExtLength)),
+        (&[0x82, 7], stop(1, Reason::BadExtLength)),
+        (&[0x83, 1], stop(1, Reason::BadExtLength)),
+        (&[0x83, 0], stop(1, Reason::BadExtLength)),
+        (&[0x80, 20, 0], stop(0, Reason::CutExtEntry)),
+        (&[0x81, 8, 0, 0, 0, 0, 0], stop(0, Reason::CutExtEntry)),
+        (&[0x82, 8], stop(0, Reason::CutExtEntry)),
+        (&[0x83, 3], stop(0, Reason::CutExtEntry)),
+        (&[0x83, 2, 0x83, 1], stop(3, Reason::BadExtLength)),
+        (&[0x83, 3, 0x41, 0x7F], stop(3, Reason::BadExtType)),
+    ];
+    for (bytes, expected) in cases {
+        assert_eq!(rt; ext_fault(rt.alloc(), bytes), expected, "for {bytes:?}");
+    }
+}

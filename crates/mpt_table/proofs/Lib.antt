@@ -1,0 +1,3 @@
+pub mod PointerFaults
+pub mod TableFaults
+pub mod AnswerLemmas

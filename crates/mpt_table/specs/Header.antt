@@ -1,0 +1,30 @@
+-- What the reader has found right so far. Only private functions of the crate cite it.
+use Rattle.std.specs.Prelude.{◌≡◌, ◌≢◌, ℕ, ◌+◌, ◌≤◌, List, length, slice_index, codes}
+use Rattle.mpt_base.specs.Bytes.{part}
+use Rattle.mpt_spec.specs.declared.pointer.Pointer.{Pointer}
+use Rattle.mpt_spec.specs.declared.entry.Base.{Base}
+use Rattle.mpt_spec.specs.Entries.{AreBaseEntries}
+use Rattle.mpt_spec.specs.Table.{count_at, base_end, HasBaseInside, HasExtInside, HasChecksum, HasExtChecksum, default_number}
+
+-- the floating pointer is right in an image of this size: it names a default configuration from 1 to 7, or a table whose header lies inside
+pub record HasRightPointer (p : Pointer) (size : ℕ) : Type 0 where
+  pub body : default_number p ≡ 0 → p.address ≢ 0
+  pub inside : default_number p ≡ 0 → p.address + 44 ≤ size
+  pub revision : p.revision ≡ 4
+  pub low : default_number p ≤ 7
+
+-- the header is right up to the checksum: signature, base length, revision and the sum of the base table
+pub record HasRightHeader (image : List ℕ) (at : ℕ) : Type 0 where
+  pub signature : part image at 4 ≡ codes "PCMP"
+  pub inside : HasBaseInside image at
+  pub revision : slice_index image (at + 6) ≡ 4
+  pub checksum : HasChecksum image at
+
+-- the extended part lies inside and has a right checksum
+pub record HasRightExtPart (image : List ℕ) (at : ℕ) : Type 0 where
+  pub inside : HasExtInside image at
+  pub checksum : HasExtChecksum image at
+
+-- base entries that fill the base table are as many as the count says
+abbrev pub HasRightCount : List ℕ → ℕ → Type 0
+HasRightCount image at = (es : List Base) → AreBaseEntries es image (at + 44) (base_end image at) → length es ≡ count_at image at

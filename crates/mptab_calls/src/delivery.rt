@@ -1,0 +1,43 @@
+//! The delivery of a text to a sink, in pieces none of which is empty.
+
+ghost use Rattle.std.specs.Prelude.{◌≡◌, ◌≤◌, map, OnOk, OnErr};
+ghost use Rattle.mpt_base.specs.Outside.{Rose, Appends, AppendsPrefix};
+ghost use Rattle.mpt_listing.specs.Listing.{line};
+
+use mpt_base::{Failed, Sink};
+
+/// The bytes of a piece; the last may be shorter.
+const PIECE: usize = 4096;
+
+/// Puts a text piece by piece. It ends at the first put that fails.
+pub(crate) fn put_text<O: Sink>(out: &mut O, text: &[u8]) -> Result<(), Failed>
+    ensures ok { OnOk result (Appends (O.written out.old) (O.written out.new) text.now) }
+    ensures err { OnErr result (AppendsPrefix (O.written out.old) (O.written out.new) text.now) }
+    ensures failed { OnErr result (Rose (O.faults out.old) (O.faults out.new)) }
+    ensures faults_never_fall { O.faults out.old ≤ O.faults out.new }
+{
+    let mut rest = text;
+    while !rest.is_empty() {
+        let (piece, after) = rest.split_at(rest.len().min(PIECE));
+        if let Err(failed) = out.put(piece) {
+            return Err(failed);
+        }
+        rest = after;
+    }
+    Ok(())
+}
+
+/// Puts a line of these parts, without taking memory. It ends at the first put that fails.
+pub(crate) fn put_line<O: Sink>(out: &mut O, parts: &[&[u8]]) -> Result<(), Failed>
+    ensures ok { OnOk result (Appends (O.written out.old) (O.written out.new) (line (map (λ part. part.now) parts.now))) }
+    ensures err { OnErr result (AppendsPrefix (O.written out.old) (O.written out.new) (line (map (λ part. part.now) parts.now))) }
+    ensures failed { OnErr result (Rose (O.faults out.old) (O.faults out.new)) }
+    ensures faults_never_fall { O.faults out.old ≤ O.faults out.new }
+{
+    for part in parts {
+        if let Err(failed) = put_text(out, part) {
+            return Err(failed);
+        }
+    }
+    put_text(out, b"\n")
+}
