@@ -104,6 +104,7 @@ member P [] after x h = h.0
 member P (y ∷ before) after x h = member P before after x h.1
 
 first_is_low : (image : List ℕ) (at : ℕ) → IsByteList image → IsFirstPointerAt image at → IsLowPlace at
+unfolding search_places
 first_is_low image at b f =
     let all : AllByRecursion IsLowPlace (search_places image) =
       all_low_places (areas_of (word_at image 0x40E) (word_at image 0x413) (length image)) (low_areas (word_at image 0x40E) (word_at image 0x413) (length image) (word_at-low image 0x40E b) (word_at-low image 0x413 b)) in

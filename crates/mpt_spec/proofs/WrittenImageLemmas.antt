@@ -91,6 +91,7 @@ word-written image q size there low =
     ap (λ b. if b then number_at 2 image 0x40E else 0) whole ∙ number
 
 IsWrittenImage-describes : (tables : Tables) (image : List ℕ) → IsTablesValue tables → FitsInImage tables → IsWrittenImage tables image → Describes image tables
+unfolding search_places
 IsWrittenImage-describes tables image v f w =
     let word : word_at image 0x40E ≡ tables.at / 16 = word-written image (tables.at / 16) w.size w.segment (omega (arith, f.high)) in
     let there : IsFloatingPointer tables.pointer (part image tables.at 16) = subst (λ x. IsFloatingPointer tables.pointer x) (sym w.pointer) (IsFloatingPointer-written tables.pointer v.pointer) in
