@@ -1,5 +1,5 @@
 -- The canonical form is canonical, canonical tables are their own canonical form, and both have the same places.
-use Rattle.std.proofs.Common.{◌≡◌, ℕ, suc, ◌+◌, ◌*◌, ◌/◌, ◌%◌, ◌<◌, ◌≤◌, Bool, true, false, cond, eqb, List, [], ◌∷◌, ◌++◌, length, map, replicate, sym, refl, ap, ◌∙◌, subst, arith}
+use Rattle.std.proofs.Common.{◌≡◌, ℕ, ◌+◌, ◌*◌, ◌/◌, ◌%◌, ◌<◌, ◌≤◌, Bool, true, false, cond, eqb, List, [], ◌∷◌, ◌++◌, length, map, sym, refl, ap, ◌∙◌, subst, arith}
 use Rattle.std.specs.Prelude.{◌==◌, ◌↔◌, filter, sum_by, slice_index}
 use Rattle.std.specs.List.{AllByRecursion, flat_map}
 use Rattle.std.proofs.lemmas.Bool.{eqb-true}
@@ -33,9 +33,9 @@ module _ {X : Type 0} where
   all-filter P test [] h = tt
   all-filter P test (x ∷ xs) h = kept (test x) (all-filter P test xs h.1)
     where
-    kept : (b : Bool) → AllByRecursion P (filter test xs) → AllByRecursion P (cond b (x ∷ filter test xs) (filter test xs))
-    kept true rest = (h.0, rest)
-    kept false rest = rest
+      kept : (b : Bool) → AllByRecursion P (filter test xs) → AllByRecursion P (cond b (x ∷ filter test xs) (filter test xs))
+      kept true rest = (h.0, rest)
+      kept false rest = rest
 
   all-map : (P : X → Type 0) (f : X → X) → ((x : X) → P (f x)) → (xs : List X) → AllByRecursion P (map f xs)
   all-map P f h [] = tt
@@ -60,9 +60,9 @@ of_type-types : (es : List Base) (n : ℕ) → AllByRecursion (λ e. base_type e
 of_type-types [] n = tt
 of_type-types (e ∷ es) n = kept (eqb (base_type e) n) refl (of_type-types es n)
   where
-  kept : (b : Bool) → eqb (base_type e) n ≡ b → AllByRecursion (λ e. base_type e ≡ n) (of_type es n) → AllByRecursion (λ e. base_type e ≡ n) (cond b (e ∷ of_type es n) (of_type es n))
-  kept true h rest = (eqb-true (base_type e) n h, rest)
-  kept false h rest = rest
+    kept : (b : Bool) → eqb (base_type e) n ≡ b → AllByRecursion (λ e. base_type e ≡ n) (of_type es n) → AllByRecursion (λ e. base_type e ≡ n) (cond b (e ∷ of_type es n) (of_type es n))
+    kept true h rest = (eqb-true (base_type e) n h, rest)
+    kept false h rest = rest
 
 -- entries in the order of their types
 in_order-cons : (x : Base) (zs : List Base) → AllByRecursion (λ e. base_type x ≤ base_type e) zs → IsInTypeOrder zs → IsInTypeOrder (x ∷ zs)
@@ -121,10 +121,11 @@ canonical_ext-clear (ext.Opaque e) = tt
 canonical_body-canonical : (b : Body) → IsCanonicalBody (canonical_body b)
 canonical_body-canonical (body.Default n) = tt
 canonical_body-canonical (body.Listed t) = (
-    refl,
-    all-in_type_order HasClearBits (map canonical_base t.base) (all-map HasClearBits canonical_base canonical_base-clear t.base) (0 ∷ 1 ∷ 2 ∷ 3 ∷ 4 ∷ []),
-    IsInTypeOrder-in_type_order (map canonical_base t.base),
-    all-map HasClearExtBits canonical_ext canonical_ext-clear t.ext)
+  refl,
+  all-in_type_order HasClearBits (map canonical_base t.base) (all-map HasClearBits canonical_base canonical_base-clear t.base) (0 ∷ 1 ∷ 2 ∷ 3 ∷ 4 ∷ []),
+  IsInTypeOrder-in_type_order (map canonical_base t.base),
+  all-map HasClearExtBits canonical_ext canonical_ext-clear t.ext,
+)
 
 -- the canonical form is canonical
 pub IsCanonical-canonical_of : (tables : Tables) → IsCanonical (canonical_of tables)
@@ -223,7 +224,7 @@ canonical_body-fixed (body.Listed t) h =
 pub canonical_of-canonical : (tables : Tables) → IsTablesValue tables → IsCanonical tables → canonical_of tables ≡ tables
 canonical_of-canonical tables v c =
     let features : slice_index tables.pointer.features 0 ∷ 64 * (slice_index tables.pointer.features 1 / 64) ∷ 0 ∷ 0 ∷ 0 ∷ [] ≡ tables.pointer.features =
-      features-fixed tables.pointer.features v.pointer.features.size c.feature_byte_2 c.feature_byte_3 c.feature_byte_4 c.feature_byte_5 in
+    features-fixed tables.pointer.features v.pointer.features.size c.feature_byte_2 c.feature_byte_3 c.feature_byte_4 c.feature_byte_5 in
     let same : canonical_body tables.body ≡ tables.body = canonical_body-fixed tables.body c.body in
     λ i. record tables { pointer = record tables.pointer { features = features i }; body = same i }
 
@@ -239,8 +240,14 @@ canonical_of-twice tables =
 sum_by-in_type_order : (size : Base → ℕ) (es : List Base) → sum_by size (in_type_order es) ≡ sum_by size (of_type es 0) + (sum_by size (of_type es 1) + (sum_by size (of_type es 2) + (sum_by size (of_type es 3) + sum_by size (of_type es 4))))
 sum_by-in_type_order size es =
     let last : List Base = of_type es 4 ++ [] in
-    omega (arith, sum_by-append size (of_type es 0) (of_type es 1 ++ (of_type es 2 ++ (of_type es 3 ++ last))), sum_by-append size (of_type es 1) (of_type es 2 ++ (of_type es 3 ++ last)),
-      sum_by-append size (of_type es 2) (of_type es 3 ++ last), sum_by-append size (of_type es 3) last, sum_by-append size (of_type es 4) [])
+    omega (
+      arith,
+      sum_by-append size (of_type es 0) (of_type es 1 ++ (of_type es 2 ++ (of_type es 3 ++ last))),
+      sum_by-append size (of_type es 1) (of_type es 2 ++ (of_type es 3 ++ last)),
+      sum_by-append size (of_type es 2) (of_type es 3 ++ last),
+      sum_by-append size (of_type es 3) last,
+      sum_by-append size (of_type es 4) [],
+    )
 
 sum_by-types : (size : Base → ℕ) (es : List Base) → sum_by size (of_type es 0) + (sum_by size (of_type es 1) + (sum_by size (of_type es 2) + (sum_by size (of_type es 3) + sum_by size (of_type es 4)))) ≡ sum_by size es
 sum_by-types size [] = refl
@@ -289,18 +296,19 @@ lawful-canonical (e ∷ es) =
 
 table-canonical : (t : Table) → IsWellFormedTable (canonical_table t) ↔ IsWellFormedTable t
 table-canonical t = (
-    λ h. record {
-      revision = h.revision;
-      lawful = subst (λ (a : Type 0). a) (lawful-canonical t.ext) h.lawful;
-      base_fits = subst (λ n. n ≤ 65535) (base_size-canonical t) h.base_fits;
-      ext_fits = subst (λ n. n ≤ 65535) (ext_size-canonical t) h.ext_fits;
-    },
-    λ h. record {
-      revision = h.revision;
-      lawful = subst (λ (a : Type 0). a) (sym (lawful-canonical t.ext)) h.lawful;
-      base_fits = subst (λ n. n ≤ 65535) (sym (base_size-canonical t)) h.base_fits;
-      ext_fits = subst (λ n. n ≤ 65535) (sym (ext_size-canonical t)) h.ext_fits;
-    })
+  λ h. record {
+    revision = h.revision;
+    lawful = subst (λ (a : Type 0). a) (lawful-canonical t.ext) h.lawful;
+    base_fits = subst (λ n. n ≤ 65535) (base_size-canonical t) h.base_fits;
+    ext_fits = subst (λ n. n ≤ 65535) (ext_size-canonical t) h.ext_fits;
+  },
+  λ h. record {
+    revision = h.revision;
+    lawful = subst (λ (a : Type 0). a) (sym (lawful-canonical t.ext)) h.lawful;
+    base_fits = subst (λ n. n ≤ 65535) (sym (base_size-canonical t)) h.base_fits;
+    ext_fits = subst (λ n. n ≤ 65535) (sym (ext_size-canonical t)) h.ext_fits;
+  },
+)
 
 body-canonical : (b : Body) (p : Pointer) → IsWellFormedBody (canonical_body b) (canonical_pointer p) ↔ IsWellFormedBody b p
 body-canonical (body.Default n) p = (λ h. h, λ h. h)
@@ -313,15 +321,16 @@ place-canonical (body.Listed t) address at = ap (λ n. HasPlaceFor n address at)
 -- tables have a place in an image exactly where their canonical form has
 pub FitsInImage-canonical_of : (tables : Tables) → FitsInImage (canonical_of tables) ↔ FitsInImage tables
 FitsInImage-canonical_of tables = (
-    λ h. record {
-      well_formed = record { revision = h.well_formed.revision; body = (body-canonical tables.body tables.pointer).0 h.well_formed.body; paragraph = h.well_formed.paragraph };
-      low = h.low;
-      high = h.high;
-      block = subst (λ (a : Type 0). a) (place-canonical tables.body tables.pointer.address tables.at) h.block;
-    },
-    λ h. record {
-      well_formed = record { revision = h.well_formed.revision; body = (body-canonical tables.body tables.pointer).1 h.well_formed.body; paragraph = h.well_formed.paragraph };
-      low = h.low;
-      high = h.high;
-      block = subst (λ (a : Type 0). a) (sym (place-canonical tables.body tables.pointer.address tables.at)) h.block;
-    })
+  λ h. record {
+    well_formed = record { revision = h.well_formed.revision; body = (body-canonical tables.body tables.pointer).0 h.well_formed.body; paragraph = h.well_formed.paragraph };
+    low = h.low;
+    high = h.high;
+    block = subst (λ (a : Type 0). a) (place-canonical tables.body tables.pointer.address tables.at) h.block;
+  },
+  λ h. record {
+    well_formed = record { revision = h.well_formed.revision; body = (body-canonical tables.body tables.pointer).1 h.well_formed.body; paragraph = h.well_formed.paragraph };
+    low = h.low;
+    high = h.high;
+    block = subst (λ (a : Type 0). a) (sym (place-canonical tables.body tables.pointer.address tables.at)) h.block;
+  },
+)

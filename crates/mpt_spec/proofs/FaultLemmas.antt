@@ -146,16 +146,16 @@ pointer_fault_inside image at k _ i h = absurd h
 header_inside : (image : List ℕ) (at : ℕ) → HasNoPointerFault image at → default_at image at ≡ 0 → address_at image at + 44 ≤ length image
 header_inside image at none listed = by_size (cases_lt (length image) (address_at image at + 44))
   where
-  by_size : (length image < address_at image at + 44) ⊎ (address_at image at + 44 ≤ length image) → address_at image at + 44 ≤ length image
-  by_size (inl outside) = absurd (none (at + 4) why.TableOutside (refl, listed, λ e. none (at + 4) why.NoTable (refl, listed, e), outside))
-  by_size (inr inside) = inside
+    by_size : (length image < address_at image at + 44) ⊎ (address_at image at + 44 ≤ length image) → address_at image at + 44 ≤ length image
+    by_size (inl outside) = absurd (none (at + 4) why.TableOutside (refl, listed, λ e. none (at + 4) why.NoTable (refl, listed, e), outside))
+    by_size (inr inside) = inside
 
 -- the first fault lies in the image
 pub IsFirstFault-inside : (image : List ℕ) (k : ℕ) (w : Reason) → IsFirstFault image k w → k < length image
 IsFirstFault-inside image k w f = by_side f.stands
   where
-  by_side : HasFaultAt image f.at k w → k < length image
-  by_side (inl h) =
-      let size : length (part image f.at 16) ≡ 16 = f.first.holds.1.size in
-      pointer_fault_inside image f.at k w (omega (arith, size, length-take 16 (drop f.at image), length-drop f.at image)) h
-  by_side (inr h) = table_fault_inside image (address_at image f.at) k w (header_inside image f.at h.0 h.1) h.2
+    by_side : HasFaultAt image f.at k w → k < length image
+    by_side (inl h) =
+        let size : length (part image f.at 16) ≡ 16 = f.first.holds.1.size in
+        pointer_fault_inside image f.at k w (omega (arith, size, length-take 16 (drop f.at image), length-drop f.at image)) h
+    by_side (inr h) = table_fault_inside image (address_at image f.at) k w (header_inside image f.at h.0 h.1) h.2

@@ -1,5 +1,5 @@
 -- What stands in an image of bytes has fields that fit.
-use Rattle.std.proofs.Common.{◌≡◌, ℕ, suc, ◌+◌, ◌*◌, ◌^◌, ◌<◌, ◌≤◌, List, [], ◌∷◌, length, sym, refl, ap, ◌∙◌, subst, arith}
+use Rattle.std.proofs.Common.{◌≡◌, ℕ, suc, ◌+◌, ◌^◌, ◌<◌, ◌≤◌, List, [], ◌∷◌, length, sym, ap, ◌∙◌, subst, arith}
 use Rattle.std.specs.Prelude.{slice_index}
 use Rattle.std.specs.List.{AllByRecursion}
 use Rattle.mpt_base.specs.Bytes.{part, number_at}
@@ -34,8 +34,18 @@ module _ (image : List ℕ) (b : IsByteList image) where
 
   value_8 : (x at : ℕ) → x ≡ number_at 8 image at → x < 2 ^ 64
   value_8 x at e =
-      omega (arith, e, b at, b (suc at), b (suc (suc at)), b (suc (suc (suc at))), b (suc (suc (suc (suc at)))), b (suc (suc (suc (suc (suc at))))), b (suc (suc (suc (suc (suc (suc at)))))),
-        b (suc (suc (suc (suc (suc (suc (suc at))))))))
+      omega (
+        arith,
+        e,
+        b at,
+        b (suc at),
+        b (suc (suc at)),
+        b (suc (suc (suc at))),
+        b (suc (suc (suc (suc at)))),
+        b (suc (suc (suc (suc (suc at))))),
+        b (suc (suc (suc (suc (suc (suc at)))))),
+        b (suc (suc (suc (suc (suc (suc (suc at))))))),
+      )
 
   part_value : (xs : List ℕ) (at n : ℕ) → xs ≡ part image at n → at + n ≤ length image → AreBytes xs n
   part_value xs at n e h = record { size = ap length e ∙ length-part image at n h; below = subst (λ x. IsByteList x) (sym e) (IsByteList-part image at n b) }

@@ -1,9 +1,9 @@
 -- Tables that an image of bytes describes are well formed.
-use Rattle.std.proofs.Common.{◌≡◌, ℕ, zero, suc, ◌+◌, ◌-◌, ◌*◌, ◌/◌, ◌%◌, ◌^◌, ◌<◌, ◌≤◌, min, Bool, true, false, cond, List, [], ◌∷◌, ◌++◌, length, map, sym, refl, ap, ◌∙◌, subst, arith}
-use Rattle.std.specs.Prelude.{◌==◌, sum_by, slice_index, if◌then◌else◌, nat_le}
+use Rattle.std.proofs.Common.{◌≡◌, ℕ, zero, suc, ◌+◌, ◌-◌, ◌*◌, ◌/◌, ◌%◌, ◌^◌, ◌<◌, ◌≤◌, Bool, true, false, List, [], ◌∷◌, ◌++◌, length, map, arith}
+use Rattle.std.specs.Prelude.{◌==◌, sum_by, if◌then◌else◌, nat_le}
 use Rattle.std.specs.List.{AllByRecursion, flat_map, range_with_len}
 use Rattle.std.proofs.lemmas.List.Sums.{sum_by-cons}
-use Rattle.mpt_base.specs.Bytes.{part, number_at}
+use Rattle.mpt_base.specs.Bytes.{number_at}
 use Rattle.mpt_spec.specs.declared.pointer.Area.{Area}
 use Rattle.mpt_spec.specs.declared.entry.Base.{Base}
 use Rattle.mpt_spec.specs.declared.entry.Ext.{Ext}
@@ -13,7 +13,7 @@ use Rattle.mpt_spec.specs.declared.tables.Body.{Body}
 use Rattle.mpt_spec.specs.declared.tables.Body.TheVariants as body
 use Rattle.mpt_spec.specs.declared.tables.Tables.{Tables}
 use Rattle.mpt_spec.specs.declared.pointer.Pointer.{Pointer}
-use Rattle.mpt_spec.specs.Search.{word_at, cut_area, first_areas, areas_of, places_in, search_places, IsFirstPointerAt}
+use Rattle.mpt_spec.specs.Search.{word_at, cut_area, areas_of, places_in, search_places, IsFirstPointerAt}
 use Rattle.mpt_spec.specs.Entries.{AreBaseEntries, base_length}
 use Rattle.mpt_spec.specs.Extended.{AreExtEntries, IsExtEntryAt, ext_length}
 use Rattle.mpt_spec.specs.Table.{base_length_at, ext_length_at, base_end, ext_end, IsConfigurationTable, IsBodyOf, Describes}
@@ -86,18 +86,18 @@ all_low_places (area ∷ areas) h = all_of_two IsLowPlace (places_in area) (flat
 low_areas : (segment base_kib size : ℕ) → segment < 65536 → base_kib < 65536 → AllByRecursion (λ area. area.to < 2 ^ 32) (areas_of segment base_kib size)
 low_areas segment base_kib size s k = by_words (segment == 0) (base_kib == 0)
   where
-  by_words : (no_segment no_base : Bool) → AllByRecursion (λ area. area.to < 2 ^ 32)
-    ((if no_segment then (if no_base then [] else (cut_area size ((base_kib - 1) * 1024) (base_kib * 1024) ∷ [])) else (cut_area size (16 * segment) (16 * segment + 1024) ∷ [])) ++ cut_area size 0xF0000 0x100000 ∷ [])
-  by_words true true = omega arith
-  by_words true false = omega arith
-  by_words false no_base = omega arith
+    by_words : (no_segment no_base : Bool) → AllByRecursion (λ area. area.to < 2 ^ 32)
+        ((if no_segment then (if no_base then [] else (cut_area size ((base_kib - 1) * 1024) (base_kib * 1024) ∷ [])) else (cut_area size (16 * segment) (16 * segment + 1024) ∷ [])) ++ cut_area size 0xF0000 0x100000 ∷ [])
+    by_words true true = omega arith
+    by_words true false = omega arith
+    by_words false no_base = omega arith
 
 word_at-low : (image : List ℕ) (at : ℕ) → IsByteList image → word_at image at < 65536
 word_at-low image at b = by_room (nat_le (at + 2) (length image))
   where
-  by_room : (whole : Bool) → (if whole then number_at 2 image at else 0) < 65536
-  by_room true = number_at_2-low image at b
-  by_room false = omega arith
+    by_room : (whole : Bool) → (if whole then number_at 2 image at else 0) < 65536
+    by_room true = number_at_2-low image at b
+    by_room false = omega arith
 
 member : (P : ℕ → Type 0) (before after : List ℕ) (x : ℕ) → AllByRecursion P (before ++ x ∷ after) → P x
 member P [] after x h = h.0
@@ -107,7 +107,7 @@ first_is_low : (image : List ℕ) (at : ℕ) → IsByteList image → IsFirstPoi
 unfolding search_places
 first_is_low image at b f =
     let all : AllByRecursion IsLowPlace (search_places image) =
-      all_low_places (areas_of (word_at image 0x40E) (word_at image 0x413) (length image)) (low_areas (word_at image 0x40E) (word_at image 0x413) (length image) (word_at-low image 0x40E b) (word_at-low image 0x413 b)) in
+    all_low_places (areas_of (word_at image 0x40E) (word_at image 0x413) (length image)) (low_areas (word_at image 0x40E) (word_at image 0x413) (length image) (word_at-low image 0x40E b) (word_at-low image 0x413 b)) in
     member IsLowPlace f.before f.after at (rw f.split at all)
 
 -- tables that an image of bytes describes are well formed, and their floating pointer lies below 4 GiB

@@ -1,5 +1,5 @@
 -- The image that is written for tables describes them.
-use Rattle.std.proofs.Common.{◌≡◌, ◌≢◌, ℕ, zero, suc, ◌+◌, ◌-◌, ◌*◌, ◌/◌, ◌%◌, ◌^◌, ◌<◌, ◌≤◌, ◌⊎◌, min, Bool, true, false, eqb, leb, List, [], ◌∷◌, ◌++◌, length, map, take, drop, replicate, sym, refl, ap, ◌∙◌, subst, inl, inr, arith, append_assoc, append-nil, add-zero}
+use Rattle.std.proofs.Common.{◌≡◌, ℕ, suc, ◌+◌, ◌-◌, ◌*◌, ◌/◌, ◌%◌, ◌^◌, ◌<◌, ◌≤◌, ◌⊎◌, min, true, false, eqb, leb, List, [], ◌∷◌, ◌++◌, length, map, take, drop, replicate, sym, refl, ap, ◌∙◌, subst, inl, inr, arith, append_assoc, append-nil, add-zero}
 use Rattle.std.specs.Prelude.{if◌then◌else◌}
 use Rattle.std.specs.Int.{to_le_bytes, w16}
 use Rattle.std.specs.List.{range_with_len, flat_map}
@@ -8,14 +8,13 @@ use Rattle.std.proofs.lemmas.List.{length-append, length-drop, length-take-le, t
 use Rattle.std.proofs.lemmas.Bool.Decides.{nat_tests}
 use Rattle.mpt_base.specs.Bytes.{part, number_at}
 use Rattle.mpt_spec.specs.declared.pointer.Area.{Area}
-use Rattle.mpt_spec.specs.declared.pointer.Pointer.{Pointer}
 use Rattle.mpt_spec.specs.declared.tables.Table.{Table}
 use Rattle.mpt_spec.specs.declared.tables.Body.{Body}
 use Rattle.mpt_spec.specs.declared.tables.Body.TheVariants as body
 use Rattle.mpt_spec.specs.declared.tables.Tables.{Tables}
 use Rattle.mpt_spec.specs.Pointer.{IsFloatingPointer}
-use Rattle.mpt_spec.specs.Search.{word_at, areas_of, places_in, search_places, IsFirst, HasPointerAt, IsFirstPointerAt}
-use Rattle.mpt_spec.specs.Table.{IsConfigurationTable, IsBodyOf, HasTables, Describes}
+use Rattle.mpt_spec.specs.Search.{word_at, areas_of, places_in, search_places}
+use Rattle.mpt_spec.specs.Table.{IsBodyOf, Describes}
 use Rattle.mpt_spec.specs.Canonical.{IsWellFormedBody, HasBlockPlace, FitsInImage, block_size}
 use Rattle.mpt_spec.specs.Image.{table_bytes, block_bytes, pointer_bytes, overlay, image_of}
 use Rattle.mpt_spec.specs.Values.{IsBodyValue, IsTablesValue}
@@ -96,7 +95,7 @@ IsWrittenImage-describes tables image v f w =
     let word : word_at image 0x40E ≡ tables.at / 16 = word-written image (tables.at / 16) w.size w.segment (omega (arith, f.high)) in
     let there : IsFloatingPointer tables.pointer (part image tables.at 16) = subst (λ x. IsFloatingPointer tables.pointer x) (sym w.pointer) (IsFloatingPointer-written tables.pointer v.pointer) in
     let places : (rest : List ℕ) × (flat_map places_in (areas_of (word_at image 0x40E) (word_at image 0x413) (length image)) ≡ tables.at ∷ rest) =
-      first_of_search (word_at image 0x40E) (word_at image 0x413) (length image) tables.at word w.size f.low f.high f.well_formed.paragraph in
+    first_of_search (word_at image 0x40E) (word_at image 0x413) (length image) tables.at word w.size f.low f.high f.well_formed.paragraph in
     record {
       first = record { before = []; after = places.0; split = places.1; none_before = tt; holds = (tables.pointer, there) };
       tables_there = record { pointer = there; revision = f.well_formed.revision; body = w.body };
@@ -144,16 +143,16 @@ with_table t tables image listed v f h =
       segment = part-overlay_before image block address fits 0x40E 2 (omega (arith, place.low)) ∙ h.segment;
       pointer = apart image block address tables.at fits (sides place.apart (sym long)) ∙ h.pointer;
       body = subst (λ b. IsBodyOf b tables.pointer (overlay image address block)) (sym listed)
-        (formed.0, formed.1, IsConfigurationTable-written t (take address image) (drop (address + length block) image) (overlay image address block) address value formed.2 (overlay-parts image block address fits) (front_long image block address fits));
+          (formed.0, formed.1, IsConfigurationTable-written t (take address image) (drop (address + length block) image) (overlay image address block) address value formed.2 (overlay-parts image block address fits) (front_long image block address fits));
     }
   where
-  sides : {a n m b c : ℕ} → (a + n ≤ b) ⊎ (c ≤ a) → n ≡ m → (a + m ≤ b) ⊎ (c ≤ a)
-  sides (inl h) e = inl (omega arith)
-  sides (inr h) e = inr h
+    sides : {a n m b c : ℕ} → (a + n ≤ b) ⊎ (c ≤ a) → n ≡ m → (a + m ≤ b) ⊎ (c ≤ a)
+    sides (inl h) e = inl (omega arith)
+    sides (inr h) e = inr h
 
-  apart : (image bytes : List ℕ) (address at : ℕ) → address + length bytes ≤ length image → (address + length bytes ≤ at) ⊎ (at + 16 ≤ address) → part (overlay image address bytes) at 16 ≡ part image at 16
-  apart image bytes address at fits (inl low) = part-overlay_after image bytes address fits at 16 low
-  apart image bytes address at fits (inr high) = part-overlay_before image bytes address fits at 16 high
+    apart : (image bytes : List ℕ) (address at : ℕ) → address + length bytes ≤ length image → (address + length bytes ≤ at) ⊎ (at + 16 ≤ address) → part (overlay image address bytes) at 16 ≡ part image at 16
+    apart image bytes address at fits (inl low) = part-overlay_after image bytes address fits at 16 low
+    apart image bytes address at fits (inr high) = part-overlay_before image bytes address fits at 16 high
 
 -- the image over any 1 MiB has the segment, the pointer and the body
 image_over-written : (bytes : List ℕ) (tables : Tables) (b : Body) → tables.body ≡ b → length bytes ≡ 0x100000 → IsTablesValue tables → FitsInImage tables → IsWrittenImage tables (image_over bytes tables)
@@ -162,7 +161,7 @@ image_over-written bytes tables (body.Default n) named size v f =
     let h : HasSegmentAndPointer tables image = segment_and_pointer bytes tables size v f in
     let formed : IsWellFormedBody (body.Default n) tables.pointer = subst (λ b. IsWellFormedBody b tables.pointer) named f.well_formed.body in
     let same : image ≡ image_over bytes tables =
-      sym (take-append-drop tables.pointer.address image) ∙ sym (nothing_over image tables.pointer.address) ∙ ap (λ b. overlay image tables.pointer.address (block_bytes b)) (sym named) in
+    sym (take-append-drop tables.pointer.address image) ∙ sym (nothing_over image tables.pointer.address) ∙ ap (λ b. overlay image tables.pointer.address (block_bytes b)) (sym named) in
     let written : IsWrittenImage tables image = record {
       size = h.size;
       segment = h.segment;
@@ -171,8 +170,8 @@ image_over-written bytes tables (body.Default n) named size v f =
     } in
     subst (λ x. IsWrittenImage tables x) same written
   where
-  nothing_over : (image : List ℕ) (at : ℕ) → overlay image at [] ≡ take at image ++ drop at image
-  nothing_over image at = ap (λ x. x ++ drop (at + 0) image) (append-nil (take at image)) ∙ ap (λ k. take at image ++ drop k image) (add-zero at)
+    nothing_over : (image : List ℕ) (at : ℕ) → overlay image at [] ≡ take at image ++ drop at image
+    nothing_over image at = ap (λ x. x ++ drop (at + 0) image) (append-nil (take at image)) ∙ ap (λ k. take at image ++ drop k image) (add-zero at)
 image_over-written bytes tables (body.Listed t) listed size v f =
     let image : List ℕ = overlay (overlay bytes 0x40E (to_le_bytes w16 (tables.at / 16))) tables.at (pointer_bytes tables.pointer) in
     let h : HasSegmentAndPointer tables image = segment_and_pointer bytes tables size v f in
