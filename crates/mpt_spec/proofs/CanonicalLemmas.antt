@@ -1,7 +1,8 @@
 -- The canonical form is canonical, canonical tables are their own canonical form, and both have the same places.
-use Rattle.std.proofs.Common.{◌≡◌, ℕ, ◌+◌, ◌*◌, ◌/◌, ◌%◌, ◌<◌, ◌≤◌, Bool, true, false, cond, eqb, List, [], ◌∷◌, ◌++◌, length, map, sym, refl, ap, ◌∙◌, subst, arith}
+use Rattle.std.proofs.Common.{◌≡◌, replicate, suc, zero, ℕ, ◌+◌, ◌*◌, ◌/◌, ◌%◌, ◌<◌, ◌≤◌, Bool, true, false, cond, eqb, List, [], ◌∷◌, ◌++◌, length, map, sym, refl, ap, ◌∙◌, subst, arith}
 use Rattle.std.specs.Prelude.{◌==◌, ◌↔◌, filter, sum_by, slice_index}
 use Rattle.std.specs.List.{AllByRecursion, flat_map}
+use Rattle.std.proofs.Math.ListN.{length-replicate}
 use Rattle.std.proofs.lemmas.Bool.{eqb-true}
 use Rattle.std.proofs.lemmas.Bool.Decides.{nat_tests}
 use Rattle.std.proofs.lemmas.List.Sums.{sum_by-cons, sum_by-append}
@@ -17,7 +18,7 @@ use Rattle.mpt_spec.specs.declared.tables.Tables.{Tables}
 use Rattle.mpt_spec.specs.Entries.{base_length}
 use Rattle.mpt_spec.specs.Extended.{ext_length}
 use Rattle.mpt_spec.specs.Canonical.{base_type, in_type_order, canonical_pointer, canonical_base, canonical_ext, canonical_body, canonical_of, HasClearBits, HasClearExtBits, IsInTypeOrder, IsCanonicalBody, IsCanonical, IsLawfulExt, IsWellFormedTable, IsWellFormedBody, HasPlaceFor, HasBlockPlace, FitsInImage, base_size, ext_size}
-use Rattle.mpt_spec.specs.Values.{IsTablesValue}
+use Rattle.mpt_spec.specs.Values.{IsByteList, AreBytes, IsBaseValue, IsExtValue, IsBodyValue, IsTablesValue}
 
 -- what holds of each member
 module _ {X : Type 0} where
@@ -334,3 +335,58 @@ FitsInImage-canonical_of tables = (
     block = subst (λ (a : Type 0). a) (sym (place-canonical tables.body tables.pointer.address tables.at)) h.block;
   },
 )
+
+-- the fields of the canonical form fit where those of the tables do
+zeros : (n : ℕ) → AreBytes (replicate n 0) n
+zeros n = record { size = length-replicate n 0; below = λ i. zero_at n i }
+  where
+  zero_at : (n i : ℕ) → slice_index (replicate n 0) i < 256
+  zero_at zero i = omega arith
+  zero_at (suc n) zero = omega arith
+  zero_at (suc n) (suc i) = zero_at n i
+
+canonical_base-value : (e : Base) → IsBaseValue e → IsBaseValue (canonical_base e)
+canonical_base-value (base.Processor e) v = record { apic = v.apic; version = v.version; flags = omega arith; signature = v.signature; features = v.features; reserved = zeros 8 }
+canonical_base-value (base.Bus e) v = v
+canonical_base-value (base.IoApic e) v = record { id = v.id; version = v.version; flags = omega arith; address = v.address }
+canonical_base-value (base.IoInt e) v = record { kind = v.kind; flags = omega arith; bus = v.bus; irq = v.irq; dest = v.dest; pin = v.pin }
+canonical_base-value (base.LocalInt e) v = record { kind = v.kind; flags = omega arith; bus = v.bus; irq = v.irq; dest = v.dest; pin = v.pin }
+
+canonical_ext-value : (e : Ext) → IsExtValue e → IsExtValue (canonical_ext e)
+canonical_ext-value (ext.Space e) v = v
+canonical_ext-value (ext.Hierarchy e) v = record { bus = v.bus; info = omega arith; parent = v.parent; reserved = zeros 3 }
+canonical_ext-value (ext.Modifier e) v = record { bus = v.bus; flags = omega arith; ranges = v.ranges }
+canonical_ext-value (ext.Opaque e) v = v
+
+all-mapped : {X : Type 0} (P : X → Type 0) (f : X → X) → ((x : X) → P x → P (f x)) → (xs : List X) → AllByRecursion P xs → AllByRecursion P (map f xs)
+all-mapped P f h [] v = tt
+all-mapped P f h (x ∷ xs) v = (h x v.0, all-mapped P f h xs v.1)
+
+canonical_body-value : (b : Body) → IsBodyValue b → IsBodyValue (canonical_body b)
+canonical_body-value (body.Default n) v = v
+canonical_body-value (body.Listed t) v = record {
+  revision = v.revision;
+  oem = v.oem;
+  product = v.product;
+  oem_table = v.oem_table;
+  oem_size = v.oem_size;
+  local_address = v.local_address;
+  reserved = omega arith;
+  base = all-in_type_order IsBaseValue (map canonical_base t.base) (all-mapped IsBaseValue canonical_base canonical_base-value t.base v.base) (0 ∷ 1 ∷ 2 ∷ 3 ∷ 4 ∷ []);
+  ext = all-mapped IsExtValue canonical_ext canonical_ext-value t.ext v.ext;
+}
+
+features-value : (fs : List ℕ) → IsByteList fs → AreBytes (slice_index fs 0 ∷ 64 * (slice_index fs 1 / 64) ∷ 0 ∷ 0 ∷ 0 ∷ []) 5
+features-value fs b = record { size = refl; below = λ i. byte i }
+  where
+  byte : (i : ℕ) → slice_index (slice_index fs 0 ∷ 64 * (slice_index fs 1 / 64) ∷ 0 ∷ 0 ∷ 0 ∷ []) i < 256
+  byte zero = b 0
+  byte (suc zero) = omega (arith, b 1)
+  byte (suc (suc i)) = (zeros 3).below i
+
+pub IsTablesValue-canonical_of : (tables : Tables) → IsTablesValue tables → IsTablesValue (canonical_of tables)
+IsTablesValue-canonical_of tables v = record {
+  at = v.at;
+  pointer = record { address = v.pointer.address; revision = v.pointer.revision; features = features-value tables.pointer.features v.pointer.features.below };
+  body = canonical_body-value tables.body v.body;
+}

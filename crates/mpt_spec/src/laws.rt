@@ -101,11 +101,12 @@ pub fn described_tables_are_well_formed()
     ensures below_4_gib { (image : List ℕ) (tables : Tables) → IsByteList image → Describes image tables → tables.at < 2 ^ 32 }
 {}
 
-/// The canonical form is canonical and its own canonical form. Canonical tables are theirs, and tables
-/// have a place in an image exactly where their canonical form has.
+/// The canonical form is canonical and its own canonical form. Canonical tables are theirs. Its fields
+/// fit where those of the tables do, and it has a place in an image exactly where the tables have.
 pub fn canonical_form_is_canonical()
     ensures canonical { (tables : Tables) → IsCanonical (canonical_of tables) }
     ensures twice { (tables : Tables) → canonical_of (canonical_of tables) ≡ canonical_of tables }
     ensures unchanged { (tables : Tables) → IsTablesValue tables → IsCanonical tables → canonical_of tables ≡ tables }
+    ensures values { (tables : Tables) → IsTablesValue tables → IsTablesValue (canonical_of tables) }
     ensures fits { (tables : Tables) → FitsInImage (canonical_of tables) ↔ FitsInImage tables }
 {}

@@ -1,4 +1,4 @@
-use Rattle.mpt_spec.proofs.CanonicalLemmas.{IsCanonical-canonical_of, canonical_of-twice, canonical_of-canonical, FitsInImage-canonical_of}
+use Rattle.mpt_spec.proofs.CanonicalLemmas.{IsCanonical-canonical_of, canonical_of-twice, canonical_of-canonical, IsTablesValue-canonical_of, FitsInImage-canonical_of}
 use Rattle.mpt_spec.proofs.laws.canonical_form_is_canonical.Goals as goal
 
 pub returns-clause-canonical : goal.returns-clause-canonical
@@ -12,3 +12,6 @@ returns-clause-unchanged c = canonical_of-canonical
 
 pub returns-clause-fits : goal.returns-clause-fits
 returns-clause-fits c = FitsInImage-canonical_of
+
+pub returns-clause-values : goal.returns-clause-values
+returns-clause-values c = IsTablesValue-canonical_of
