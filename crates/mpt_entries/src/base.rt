@@ -1,8 +1,8 @@
 //! The base entries (MultiProcessor Specification 1.4, section 4.3, figures 4-4 to 4-8).
 
 ghost use Rattle.std.specs.Prelude.{◌≡◌, ◌+◌, ◌≤◌, ◌<◌, ℕ, List, length, slice_index, IfOk, IfErr};
-ghost use Rattle.mpt_base.specs.declared.fault.Reason.{Reason as ReasonOf};
-ghost use Rattle.mpt_spec.specs.declared.entry.Base.{Base as BaseOf};
+ghost use Rattle.mpt_base.specs.declared.fault.Reason.{Reason};
+ghost use Rattle.mpt_spec.specs.declared.entry.Base.{Base};
 ghost use Rattle.mpt_spec.specs.Entries.{IsProcessorAt, IsBusAt, IsIoApicAt, IsInterruptAt, IsBaseEntryAt, AreBaseEntries, IsBaseFaultIn, base_length};
 ghost use Rattle.mpt_entries.specs.Answers.{IfFault, AnswersEntries, AnswersFault};
 
@@ -95,8 +95,8 @@ pub fn read_base(alloc: Global, bytes: &[u8], from: usize, to: usize) -> Result<
     requires inside { to ≤ length bytes.now }
     ensures entries { IfOk result (λ es. AreBaseEntries es.items bytes.now from to) }
     ensures fault { IfFault result (λ f. IsBaseFaultIn bytes.now from to f.at f.why) }
-    ensures only_entries { (es : List BaseOf) → AreBaseEntries es bytes.now from to → AnswersEntries result es }
-    ensures only_fault { (k : ℕ) (why : ReasonOf) → IsBaseFaultIn bytes.now from to k why → AnswersFault result k why }
+    ensures only_entries { (es : List Base) → AreBaseEntries es bytes.now from to → AnswersEntries result es }
+    ensures only_fault { (k : ℕ) (why : Reason) → IsBaseFaultIn bytes.now from to k why → AnswersFault result k why }
 {
     let mut entries = Vec::new(alloc);
     let mut at = from;

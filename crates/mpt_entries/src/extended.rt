@@ -1,8 +1,8 @@
 //! The extended entries (MultiProcessor Specification 1.4, section 4.4, figures 4-9 to 4-11).
 
 ghost use Rattle.std.specs.Prelude.{◌≡◌, ◌+◌, ◌≤◌, ◌<◌, ℕ, List, length, slice_index, IfOk, IfErr, IsTrue, ◌↔◌};
-ghost use Rattle.mpt_base.specs.declared.fault.Reason.{Reason as ReasonOf};
-ghost use Rattle.mpt_spec.specs.declared.entry.Ext.{Ext as ExtOf};
+ghost use Rattle.mpt_base.specs.declared.fault.Reason.{Reason};
+ghost use Rattle.mpt_spec.specs.declared.entry.Ext.{Ext};
 ghost use Rattle.mpt_spec.specs.Extended.{IsSpaceAt, IsHierarchyAt, IsModifierAt, IsOpaqueAt, IsExtEntryAt, AreExtEntries, IsExtFaultIn, IsLengthOfExtType, ext_length};
 ghost use Rattle.mpt_entries.specs.Answers.{IfFault, AnswersEntries, AnswersFault};
 
@@ -123,8 +123,8 @@ pub fn read_ext(alloc: Global, bytes: &[u8], from: usize, to: usize) -> Result<V
     requires inside { to ≤ length bytes.now }
     ensures entries { IfOk result (λ es. AreExtEntries es.items bytes.now from to) }
     ensures fault { IfFault result (λ f. IsExtFaultIn bytes.now from to f.at f.why) }
-    ensures only_entries { (es : List ExtOf) → AreExtEntries es bytes.now from to → AnswersEntries result es }
-    ensures only_fault { (k : ℕ) (why : ReasonOf) → IsExtFaultIn bytes.now from to k why → AnswersFault result k why }
+    ensures only_entries { (es : List Ext) → AreExtEntries es bytes.now from to → AnswersEntries result es }
+    ensures only_fault { (k : ℕ) (why : Reason) → IsExtFaultIn bytes.now from to k why → AnswersFault result k why }
 {
     let mut entries = Vec::new(alloc);
     let mut at = from;

@@ -29,7 +29,7 @@ fn reads_one_processor(rt: HostRuntime) -> Result<(), Fail> {
         0x00, 0x00, 0x10, 0x03, 0x20, 0x05, 0x00, 0x00, 0xBF, 0x01, 0x00, 0x00, 0x00, 0x00, 0x00,
         0x00, 0x00, 0x00, 0x00, 0x00,
     ];
-    let entries = read_base(rt.alloc(), &bytes, 0, 20).map_err(|_| "not read")?;
+    let entries = read_base(rt.alloc(), &bytes, 0, 20).ok().ok_or("not read")?;
     let expected = [Base::Processor(Processor {
         apic: 0x00,
         version: 0x10,
@@ -54,7 +54,7 @@ fn reads_each_base_entry_in_a_range(rt: HostRuntime) -> Result<(), Fail> {
         0x04, 0x03, 0x00, 0x05, 0x01, 0x09, 0xFF, 0x01, // a local interrupt
         0x05, // behind the range
     ];
-    let entries = read_base(rt.alloc(), &bytes, 3, 55).map_err(|_| "not read")?;
+    let entries = read_base(rt.alloc(), &bytes, 3, 55).ok().ok_or("not read")?;
     let expected = [
         Base::Processor(Processor {
             apic: 0x07,
@@ -134,7 +134,7 @@ fn reads_each_extended_entry_in_a_range(rt: HostRuntime) -> Result<(), Fail> {
         0xC5, 0x05, 0x51, 0x52, 0x53, // one with three bytes
         0x00, // behind the range
     ];
-    let entries = read_ext(rt.alloc(), &bytes, 1, 44).map_err(|_| "not read")?;
+    let entries = read_ext(rt.alloc(), &bytes, 1, 44).ok().ok_or("not read")?;
     match entries.as_slice() {
         [
             Ext::Space(space),
@@ -180,7 +180,7 @@ fn reads_the_longest_extended_entry(rt: HostRuntime) -> Result<(), Fail> {
     let mut bytes = [0x5A; 255];
     bytes[0] = 0xFF;
     bytes[1] = 0xFF;
-    let entries = read_ext(rt.alloc(), &bytes, 0, 255).map_err(|_| "not read")?;
+    let entries = read_ext(rt.alloc(), &bytes, 0, 255).ok().ok_or("not read")?;
     match entries.as_slice() {
         [Ext::Opaque(opaque)] => assert_eq!(rt; opaque.rest.as_slice(), [0x5A; 253].as_slice()),
         _ => assert!(rt; false, "other entries"),

@@ -1,9 +1,9 @@
 -- Numbers and parts of lists that are joined, and numbers that are written low byte first.
-use Rattle.std.proofs.Common.{◌≡◌, ℕ, zero, suc, ◌+◌, ◌-◌, ◌*◌, ◌%◌, ◌^◌, ◌<◌, List, ◌∷◌, ◌++◌, length, take, sum, refl, ap, ◌∙◌, arith}
+use Rattle.std.proofs.Common.{◌≡◌, ℕ, zero, suc, ◌+◌, ◌-◌, ◌*◌, ◌%◌, ◌^◌, ◌<◌, ◌≤◌, List, ◌∷◌, ◌++◌, length, take, drop, sum, refl, ap, ◌∙◌, arith}
 use Rattle.std.specs.Prelude.{slice_index}
 use Rattle.std.specs.Int.{to_le_bytes, w16, w32, w64}
 use Rattle.std.proofs.Math.Seq.{drop-append-add, take-append_seam, take-length}
-use Rattle.std.proofs.lemmas.List.{get_or-append-add}
+use Rattle.std.proofs.lemmas.List.{get_or-append-add, drop-append-le, take-append-le, length-drop}
 use Rattle.std.proofs.lemmas.List.Sums.{sum_by-cons, sum_by-append}
 use Rattle.std.proofs.lemmas.Nat.{from_le_bytes-to_le_bytes_2, from_le_bytes-to_le_bytes_4, from_le_bytes-to_le_bytes_8}
 use Rattle.mpt_base.specs.Bytes.{part, number_at}
@@ -30,14 +30,31 @@ take-append_whole n bytes rest e = rw (← e) (take-append_seam bytes rest)
 pub take_whole : (n : ℕ) (bytes : List ℕ) → length bytes ≡ n → take n bytes ≡ bytes
 take_whole n bytes e = rw (← e) (take-length bytes)
 
+-- what is read behind some bytes of an image
+pub number_at-behind : (n : ℕ) (image front bytes : List ℕ) (at i : ℕ) → image ≡ front ++ bytes → at ≡ length front + i → number_at n image at ≡ number_at n bytes i
+number_at-behind n image front bytes at i e p = rw (e, p) (number_at-append n front bytes i)
+
+pub slice_index-behind : (image front bytes : List ℕ) (at i : ℕ) → image ≡ front ++ bytes → at ≡ length front + i → slice_index image at ≡ slice_index bytes i
+slice_index-behind image front bytes at i e p = rw (e, p) (slice_index-append front bytes i)
+
+pub part-behind : (n : ℕ) (image front bytes : List ℕ) (at i : ℕ) → image ≡ front ++ bytes → at ≡ length front + i → part image at n ≡ part bytes i n
+part-behind n image front bytes at i e p = rw (e, p) (part-append front bytes i n)
+
+-- what is read before some bytes of an image
+pub part-before : (n : ℕ) (front bytes : List ℕ) (i : ℕ) → i + n ≤ length front → part (front ++ bytes) i n ≡ part front i n
+part-before n front bytes i h =
+    let inside : i ≤ length front = omega arith in
+    let room : n ≤ length (drop i front) = omega (arith, length-drop i front) in
+    ap (λ xs. take n xs) (drop-append-le i front bytes inside) ∙ take-append-le n (drop i front) bytes room
+
 -- sums of byte values, as they are written and as they are read
-two_bytes : (a b : ℕ) → a + 256 * (b + 256 * 0) ≡ a + b * 256
+pub two_bytes : (a b : ℕ) → a + 256 * (b + 256 * 0) ≡ a + b * 256
 two_bytes a b = omega arith
 
-four_bytes : (a b c d : ℕ) → a + 256 * (b + 256 * (c + 256 * (d + 256 * 0))) ≡ a + b * 256 + c * 65536 + d * 16777216
+pub four_bytes : (a b c d : ℕ) → a + 256 * (b + 256 * (c + 256 * (d + 256 * 0))) ≡ a + b * 256 + c * 65536 + d * 16777216
 four_bytes a b c d = omega arith
 
-eight_bytes : (a b c d e f g h : ℕ) → a + 256 * (b + 256 * (c + 256 * (d + 256 * (e + 256 * (f + 256 * (g + 256 * (h + 256 * 0))))))) ≡ a + b * 256 + c * 65536 + d * 16777216 + e * 4294967296 + f * 1099511627776 + g * 281474976710656 + h * 72057594037927936
+pub eight_bytes : (a b c d e f g h : ℕ) → a + 256 * (b + 256 * (c + 256 * (d + 256 * (e + 256 * (f + 256 * (g + 256 * (h + 256 * 0))))))) ≡ a + b * 256 + c * 65536 + d * 16777216 + e * 4294967296 + f * 1099511627776 + g * 281474976710656 + h * 72057594037927936
 eight_bytes a b c d e f g h = omega arith
 
 -- the number that is written low byte first is read

@@ -1,4 +1,13 @@
--- Entries that stand end to end: a place has one entry, a range has one list of entries or one fault.
+-- Entries that stand end to end. Each lemma stands for base entries and, with Ext for Base, for extended ones.
+--     IsBaseEntryAt-unique         a place has one entry
+--     IsBaseEntryAt-type           what the type byte of an entry says; for extended ones IsExtEntryAt-head
+--     AreBaseEntries-unique        a range has one list of entries
+--     AreBaseEntries-le            a range of entries ends at or behind its start
+--     AreBaseEntries-append        entries, and more behind them; AreBaseEntries-push: one more
+--     IsBaseFaultIn-no_entries     where entries are at fault, none stand end to end
+--     IsBaseFaultIn-unique         there is one fault
+--     IsBaseFaultIn-bounds         the fault lies in the range
+--     IsBaseFaultIn-after          the fault of the rest is that of the whole
 use Rattle.std.proofs.Common.{◌≡◌, ℕ, ◌+◌, ◌≤◌, ◌<◌, List, [], ◌∷◌, ◌++◌, length, refl, sym, ap, ◌∙◌, subst, inl, inr, arith}
 use Rattle.std.specs.Prelude.{slice_index, ◌⊎◌}
 use Rattle.mpt_base.specs.declared.fault.Reason.{Reason}
@@ -273,12 +282,12 @@ IsBaseFaultIn-after es bytes from mid to k why.CutEntry h g = (base_before_after
 IsBaseFaultIn-after es bytes from mid to k _ h g = absurd g
 
 -- what the first two bytes of an extended entry say
-record IsExtHeadAt (e : Ext) (bytes : List ℕ) (at : ℕ) : Type 0 where
-  known : 128 ≤ slice_index bytes at
-  length_is : slice_index bytes (at + 1) ≡ ext_length e
-  right : IsLengthOfExtType (slice_index bytes at) (slice_index bytes (at + 1))
+pub record IsExtHeadAt (e : Ext) (bytes : List ℕ) (at : ℕ) : Type 0 where
+  pub known : 128 ≤ slice_index bytes at
+  pub length_is : slice_index bytes (at + 1) ≡ ext_length e
+  pub right : IsLengthOfExtType (slice_index bytes at) (slice_index bytes (at + 1))
 
-IsExtEntryAt-head : (e : Ext) (bytes : List ℕ) (at : ℕ) → IsExtEntryAt e bytes at → IsExtHeadAt e bytes at
+pub IsExtEntryAt-head : (e : Ext) (bytes : List ℕ) (at : ℕ) → IsExtEntryAt e bytes at → IsExtHeadAt e bytes at
 IsExtEntryAt-head (ext.Space e) bytes at h =
     record { known = omega arith; length_is = h.length_byte; right = record { whole = omega arith; space = λ t. h.length_byte; hierarchy = λ t. absurd (omega arith); modifier = λ t. absurd (omega arith) } }
 IsExtEntryAt-head (ext.Hierarchy e) bytes at h =
@@ -315,10 +324,11 @@ ext_fault bytes from to k why.BadExtType h =
     (subst (HasExtEntriesBefore bytes from to) same_place h.before, subst (λ (n : ℕ). slice_index bytes n < 128) same_place h.blame.1)
 ext_fault bytes from to k why.BadExtLength h = (h.place, h.blame.0, h.before, h.blame.1, h.blame.2, h.blame.3)
 ext_fault bytes from to k why.CutExtEntry h =
-    let same_place : h.place ≡ k = sym h.blame.0 in
-    (subst (HasExtEntriesBefore bytes from to) same_place h.before
-    , subst (λ (n : ℕ). 128 ≤ slice_index bytes n) same_place h.blame.1
-    , subst (λ (n : ℕ). (n + 1 ≡ to) ⊎ (IsLengthOfExtType (slice_index bytes n) (slice_index bytes (n + 1)) × (to < n + slice_index bytes (n + 1)))) same_place h.blame.2)
+    let same_place : h.place ≡ k = sym h.blame.0 in (
+      subst (HasExtEntriesBefore bytes from to) same_place h.before,
+      subst (λ (n : ℕ). 128 ≤ slice_index bytes n) same_place h.blame.1,
+      subst (λ (n : ℕ). (n + 1 ≡ to) ⊎ (IsLengthOfExtType (slice_index bytes n) (slice_index bytes (n + 1)) × (to < n + slice_index bytes (n + 1)))) same_place h.blame.2,
+    )
 ext_fault bytes from to k _ h = absurd h.blame
 
 ext_blame_stuck : (bytes : List ℕ) (to at k : ℕ) (w : Reason) → IsExtBlameAt bytes to at k w → (e : Ext) → IsExtEntryAt e bytes at → to < at + ext_length e

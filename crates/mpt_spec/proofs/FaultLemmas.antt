@@ -1,5 +1,8 @@
 -- There is one first fault at most, and none where an image describes tables.
-use Rattle.std.proofs.Common.{◌≡◌, ℕ, ◌+◌, ◌*◌, ◌≤◌, ◌<◌, List, [], ◌∷◌, length, get_or, sym, refl, ap, ◌∙◌, subst, inl, inr, arith}
+use Rattle.std.proofs.Common.{drop, ◌⊎◌, ◌≡◌, ℕ, ◌+◌, ◌*◌, ◌≤◌, ◌<◌, List, [], ◌∷◌, length, get_or, sym, refl, ap, ◌∙◌, subst, inl, inr, arith}
+use Rattle.std.proofs.lemmas.List.{length-take, length-drop}
+use Rattle.std.proofs.lemmas.Bool.{cases_lt}
+use Rattle.mpt_base.specs.Bytes.{part}
 use Rattle.mpt_base.specs.Reason.{reason_number}
 use Rattle.mpt_base.specs.declared.fault.Reason.{Reason}
 use Rattle.mpt_base.specs.declared.fault.Reason.TheVariants as why
@@ -10,10 +13,10 @@ use Rattle.mpt_spec.specs.declared.tables.Body.TheVariants as body
 use Rattle.mpt_spec.specs.declared.tables.Tables.{Tables}
 use Rattle.mpt_spec.specs.Search.{search_places, HasPointerAt}
 use Rattle.mpt_spec.specs.Table.{base_end, ext_end, IsConfigurationTable, IsBodyOf, Describes}
-use Rattle.mpt_spec.specs.Faults.{address_at, default_at, HasPointerFaultAt, HasTableFaultAt, HasFaultAt, fault_order, IsFirstFault}
+use Rattle.mpt_spec.specs.Faults.{address_at, default_at, HasPointerFaultAt, HasTableFaultAt, HasNoPointerFault, HasFaultAt, fault_order, IsFirstFault}
 use Rattle.mpt_spec.proofs.SearchLemmas.{IsFirst-unique}
 use Rattle.mpt_spec.proofs.CallerLemmas.{HasPointerFieldsAt, IsFloatingPointer-fields}
-use Rattle.mpt_spec.proofs.EntryLemmas.{AreBaseEntries-unique, IsBaseFaultIn-no_entries, IsExtFaultIn-no_entries}
+use Rattle.mpt_spec.proofs.EntryLemmas.{AreBaseEntries-unique, IsBaseFaultIn-bounds, IsExtFaultIn-bounds, IsBaseFaultIn-no_entries, IsExtFaultIn-no_entries}
 
 -- reasons by their numbers
 reasons : List Reason
@@ -114,3 +117,45 @@ pub Describes-no_first_fault : (image : List ℕ) (t : Tables) (k : ℕ) (w : Re
 Describes-no_first_fault image t k w d f =
     let places : f.at ≡ t.at = IsFirst-unique (HasPointerAt image) (search_places image) f.at t.at f.first d.first in
     Describes-no_fault image t k w d (subst (λ x. HasFaultAt image x k w) places f.stands)
+
+-- a fault of the table lies in the image, where the header does
+table_fault_inside : (image : List ℕ) (at k : ℕ) (w : Reason) → at + 44 ≤ length image → HasTableFaultAt image at k w → k < length image
+table_fault_inside image at k why.BadSignature i h = omega (arith, h.0)
+table_fault_inside image at k why.ShortLength i h = omega (arith, h.0)
+table_fault_inside image at k why.LengthOutside i h = omega (arith, h.0)
+table_fault_inside image at k why.BadRevision i h = omega (arith, h.0)
+table_fault_inside image at k why.BadSum i h = omega (arith, h.0)
+table_fault_inside image at k why.BadCount i h = omega (arith, h.0)
+table_fault_inside image at k why.ExtOutside i h = omega (arith, h.0)
+table_fault_inside image at k why.BadExtSum i h = omega (arith, h.0)
+table_fault_inside image at k why.UnknownEntry i h = omega (arith, (IsBaseFaultIn-bounds image (at + 44) (base_end image at) k why.UnknownEntry h.1).1, h.0.inside)
+table_fault_inside image at k why.CutEntry i h = omega (arith, (IsBaseFaultIn-bounds image (at + 44) (base_end image at) k why.CutEntry h.1).1, h.0.inside)
+table_fault_inside image at k why.BadExtType i h = omega (arith, (IsExtFaultIn-bounds image (base_end image at) (ext_end image at) k why.BadExtType h.1).1, h.0.inside)
+table_fault_inside image at k why.BadExtLength i h = omega (arith, (IsExtFaultIn-bounds image (base_end image at) (ext_end image at) k why.BadExtLength h.1).1, h.0.inside)
+table_fault_inside image at k why.CutExtEntry i h = omega (arith, (IsExtFaultIn-bounds image (base_end image at) (ext_end image at) k why.CutExtEntry h.1).1, h.0.inside)
+table_fault_inside image at k _ i h = absurd h
+
+pointer_fault_inside : (image : List ℕ) (at k : ℕ) (w : Reason) → at + 16 ≤ length image → HasPointerFaultAt image at k w → k < length image
+pointer_fault_inside image at k why.NoTable i h = omega (arith, h.0)
+pointer_fault_inside image at k why.TableOutside i h = omega (arith, h.0)
+pointer_fault_inside image at k why.BadRevision i h = omega (arith, h.0)
+pointer_fault_inside image at k why.BadDefault i h = omega (arith, h.0)
+pointer_fault_inside image at k _ i h = absurd h
+
+-- where no fault of the pointer stands, the header of its table lies in the image
+header_inside : (image : List ℕ) (at : ℕ) → HasNoPointerFault image at → default_at image at ≡ 0 → address_at image at + 44 ≤ length image
+header_inside image at none listed = by_size (cases_lt (length image) (address_at image at + 44))
+  where
+    by_size : (length image < address_at image at + 44) ⊎ (address_at image at + 44 ≤ length image) → address_at image at + 44 ≤ length image
+    by_size (inl outside) = absurd (none (at + 4) why.TableOutside (refl, listed, λ e. none (at + 4) why.NoTable (refl, listed, e), outside))
+    by_size (inr inside) = inside
+
+-- the first fault lies in the image
+pub IsFirstFault-inside : (image : List ℕ) (k : ℕ) (w : Reason) → IsFirstFault image k w → k < length image
+IsFirstFault-inside image k w f = by_side f.stands
+  where
+    by_side : HasFaultAt image f.at k w → k < length image
+    by_side (inl h) =
+        let size : length (part image f.at 16) ≡ 16 = f.first.holds.1.size in
+        pointer_fault_inside image f.at k w (omega (arith, size, length-take 16 (drop f.at image), length-drop f.at image)) h
+    by_side (inr h) = table_fault_inside image (address_at image f.at) k w (header_inside image f.at h.0 h.1) h.2

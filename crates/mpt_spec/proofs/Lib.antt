@@ -9,3 +9,8 @@ pub mod FirstFaultLemmas
 pub mod ExampleLemmas
 pub mod FaultExamples
 pub mod WrittenTableLemmas
+pub mod WrittenImageLemmas
+pub mod CanonicalLemmas
+pub mod WellFormedLemmas
+pub mod SpellingLemmas
+pub mod ValueLemmas

@@ -137,3 +137,7 @@ board_tables = record {
   pointer = record { address = 0xF0010; revision = 4; features = replicate 5 0 };
   body = body.Listed (table_of board_entries);
 }
+
+-- the sixteen bytes of its floating pointer
+abbrev pub board_pointer_bytes : List ℕ
+board_pointer_bytes = 0x5F ∷ 0x4D ∷ 0x50 ∷ 0x5F ∷ 0x10 ∷ 0x00 ∷ 0x0F ∷ 0x00 ∷ 0x01 ∷ 0x04 ∷ 0x81 ∷ 0x00 ∷ 0x00 ∷ 0x00 ∷ 0x00 ∷ 0x00 ∷ []

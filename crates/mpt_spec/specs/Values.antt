@@ -1,8 +1,8 @@
 -- The values of the types: in a definition a field is any number, so a law over every entry has as its premise that its
 -- numbers fit their fields, a byte below 256 and so on (MultiProcessor Specification 1.4, figures 4-2 to 4-11).
---     AreBytes bytes n     n bytes
---     IsBaseValue e, IsExtValue e, IsPointerValue p, IsTableValue t   the fields fit
-use Rattle.std.specs.Prelude.{◌≡◌, ℕ, ◌^◌, ◌<◌, List, length}
+--     IsByteList bytes, AreBytes bytes n   bytes, n bytes
+--     IsBaseValue e, IsExtValue e, IsPointerValue p, IsTableValue t, IsTablesValue tables   the fields fit
+use Rattle.std.specs.Prelude.{◌≡◌, ℕ, ◌^◌, ◌<◌, List, length, slice_index}
 use Rattle.std.specs.List.{AllByRecursion}
 use Rattle.mpt_spec.specs.declared.pointer.Pointer.{Pointer}
 use Rattle.mpt_spec.specs.declared.entry.Processor.{Processor}
@@ -18,11 +18,18 @@ use Rattle.mpt_spec.specs.declared.entry.Opaque.{Opaque}
 use Rattle.mpt_spec.specs.declared.entry.Ext.{Ext}
 use Rattle.mpt_spec.specs.declared.entry.Ext.TheVariants as ext
 use Rattle.mpt_spec.specs.declared.tables.Table.{Table}
+use Rattle.mpt_spec.specs.declared.tables.Body.{Body}
+use Rattle.mpt_spec.specs.declared.tables.Body.TheVariants as body
+use Rattle.mpt_spec.specs.declared.tables.Tables.{Tables}
+
+-- all members are bytes
+abbrev pub IsByteList : List ℕ → Type 0
+IsByteList bytes = (i : ℕ) → slice_index bytes i < 256
 
 -- a list of n bytes
 pub record AreBytes (bytes : List ℕ) (n : ℕ) : Type 0 where
   pub size : length bytes ≡ n
-  pub below : AllByRecursion (λ b. b < 256) bytes
+  pub below : IsByteList bytes
 
 -- a processor entry
 pub record IsProcessorValue (e : Processor) : Type 0 where
@@ -85,7 +92,7 @@ pub record IsModifierValue (e : Modifier) : Type 0 where
 -- an opaque entry
 pub record IsOpaqueValue (e : Opaque) : Type 0 where
   pub kind : e.kind < 256
-  pub rest : AllByRecursion (λ b. b < 256) e.rest
+  pub rest : IsByteList e.rest
 
 -- an extended entry
 abbrev pub IsExtValue : Ext → Type 0
@@ -111,3 +118,14 @@ pub record IsTableValue (t : Table) : Type 0 where
   pub reserved : t.reserved < 256
   pub base : AllByRecursion IsBaseValue t.base
   pub ext : AllByRecursion IsExtValue t.ext
+
+-- a body
+abbrev pub IsBodyValue : Body → Type 0
+IsBodyValue (body.Default n) = n < 256
+IsBodyValue (body.Listed t) = IsTableValue t
+
+-- tables
+pub record IsTablesValue (tables : Tables) : Type 0 where
+  pub at : tables.at < 2 ^ 64
+  pub pointer : IsPointerValue tables.pointer
+  pub body : IsBodyValue tables.body

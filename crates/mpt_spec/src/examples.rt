@@ -9,12 +9,13 @@ ghost use Rattle.mpt_spec.specs.Table.{Describes};
 ghost use Rattle.mpt_spec.specs.Faults.{IsFirstFault};
 ghost use Rattle.mpt_spec.specs.Canonical.{IsCanonical, FitsInImage, canonical_of, block_size};
 ghost use Rattle.mpt_spec.specs.Image.{table_bytes, block_bytes, pointer_bytes};
-ghost use Rattle.mpt_spec.specs.Examples.{one_processor, one_processor_bytes, header_with, entry_with, small_pointer, small_pointer_bytes, small_image_with, small_image, small_tables, extended_tables, default_image, default_tables, second_place_image, second_place_tables, board_tables};
+ghost use Rattle.mpt_spec.specs.Examples.{one_processor, one_processor_bytes, header_with, entry_with, small_pointer, small_pointer_bytes, small_image_with, small_image, small_tables, extended_tables, default_image, default_tables, second_place_image, second_place_tables, board_tables, board_pointer_bytes};
 
-/// A table of one processor and its floating pointer have the bytes that the figures of chapter 4 give.
+/// A table of one processor and floating pointers to it at 510h and F0010h have the bytes that the figures of chapter 4 give.
 pub fn bytes_of_one_processor()
     ensures table { table_bytes one_processor ≡ one_processor_bytes }
     ensures pointer { pointer_bytes small_pointer ≡ small_pointer_bytes }
+    ensures high_pointer { pointer_bytes board_tables.pointer ≡ board_pointer_bytes }
 {}
 
 /// The small image of 1,360 bytes describes that table.

@@ -6,3 +6,6 @@ returns-clause-table c = refl
 
 pub returns-clause-pointer : goal.returns-clause-pointer
 returns-clause-pointer c = refl
+
+pub returns-clause-high_pointer : goal.returns-clause-high_pointer
+returns-clause-high_pointer c = refl
