@@ -52,8 +52,14 @@ fn looks_in_one_area_beside_the_bios(rt: HostRuntime) {
         from: 1000,
         to: 1000,
     };
-    assert_eq!(rt; areas(0x9FC0, 0, 0x10_0000).as_slice(), [kilobyte, bios].as_slice());
-    assert_eq!(rt; areas(0, 0x280, 0x10_0000).as_slice(), [kilobyte, bios].as_slice());
+    assert_eq!(rt;
+        areas(0x9FC0, 0, 0x10_0000).as_slice(),
+        [kilobyte, bios].as_slice()
+    );
+    assert_eq!(rt;
+        areas(0, 0x280, 0x10_0000).as_slice(),
+        [kilobyte, bios].as_slice()
+    );
     assert_eq!(rt; areas(0, 0, 1000).as_slice(), [end].as_slice());
 }
 
