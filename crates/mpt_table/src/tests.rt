@@ -32,20 +32,20 @@ fn zeros(alloc: Global, len: usize) -> Result<Vec<u8>, AllocError>
     vec![in alloc; 0; len]
 }
 
-// an image of 1,360 bytes: the EBDA at 500h, the floating pointer there, and the table behind it
-fn small_image(alloc: Global) -> Result<Vec<u8>, AllocError>
+// an image of 1,360 bytes: the EBDA at 500h, the floating pointer there, and these bytes of a table behind it
+fn small_image(alloc: Global, table: &[u8; 64]) -> Result<Vec<u8>, AllocError>
     ensures { IfOk result (λ image. length image.items ≡ 1360) }
 {
     let mut image = zeros(alloc, 1360)?;
     image[0x40E] = 0x50;
     image[0x500..0x510].copy_from_slice(&POINTER);
-    image[0x510..0x550].copy_from_slice(&TABLE);
+    image[0x510..0x550].copy_from_slice(table);
     Ok(image)
 }
 
 #[test]
 fn describes_a_table_of_one_processor(rt: HostRuntime) -> Result<(), Fail> {
-    let image = small_image(rt.alloc())?;
+    let image = small_image(rt.alloc(), &TABLE)?;
     let tables = read(rt.alloc(), image.as_slice()).ok().ok_or("refused")?;
     assert_eq!(rt; tables.at, 0x500);
     let pointer = Pointer {
@@ -72,7 +72,10 @@ fn describes_a_table_of_one_processor(rt: HostRuntime) -> Result<(), Fail> {
         features: 0x0000_01BF,
         reserved: [0; 8],
     };
-    assert_eq!(rt; table.base.as_slice(), [Base::Processor(processor)].as_slice());
+    assert_eq!(rt;
+        table.base.as_slice(),
+        [Base::Processor(processor)].as_slice()
+    );
     assert!(rt; table.ext.as_slice().is_empty());
     Ok(())
 }
@@ -89,10 +92,11 @@ fn tells_the_first_fault(rt: HostRuntime) -> Result<(), Fail> {
         (&[(44, 5), (7, 0x94)], 0x53C, Reason::UnknownEntry),
     ];
     for (changes, at, why) in rows {
-        let mut image = small_image(rt.alloc())?;
+        let mut table = TABLE;
         for (offset, byte) in changes {
-            image[0x510 + offset % 64] = *byte;
+            table[offset % 64] = *byte;
         }
+        let image = small_image(rt.alloc(), &table)?;
         let refusal = read(rt.alloc(), image.as_slice()).err();
         assert_eq!(rt; refusal, Some(Refusal::Fault(Fault { at, why })));
     }
