@@ -32,7 +32,7 @@ fn zeros(alloc: Global, len: usize) -> Result<Vec<u8>, AllocError>
     vec![in alloc; 0; len]
 }
 
-// an image of 1,360 bytes: the EBDA at 500h, the floating pointer there, and these bytes of a table behind it
+// an image of 1,360 bytes: the EBDA at 500h, the floating pointer there, a table of these bytes behind it
 fn small_image(alloc: Global, table: &[u8; 64]) -> Result<Vec<u8>, AllocError>
     ensures { IfOk result (λ image. length image.items ≡ 1360) }
 {
