@@ -1,7 +1,6 @@
 -- Every image of bytes has no floating pointer, describes tables, or has a first fault.
-use Rattle.std.proofs.Common.{◌≡◌, ◌≢◌, ℕ, zero, suc, ◌+◌, ◌*◌, ◌%◌, ◌<◌, ◌≤◌, ◌⊎◌, List, [], ◌∷◌, ◌++◌, length, sum, sym, refl, ap, ◌∙◌, subst, inl, inr, arith}
+use Rattle.std.proofs.Common.{◌≡◌, ◌≢◌, ℕ, ◌+◌, ◌%◌, ◌<◌, ◌≤◌, ◌⊎◌, List, [], ◌∷◌, length, sum, sym, refl, ap, ◌∙◌, subst, inl, inr, arith}
 use Rattle.std.specs.Prelude.{slice_index, codes}
-use Rattle.std.specs.List.{AllByRecursion}
 use Rattle.std.proofs.lemmas.Bool.{cases_lt}
 use Rattle.mpt_base.specs.Bytes.{part, number_at, SumsToZero}
 use Rattle.mpt_base.specs.declared.fault.Reason.{Reason}
@@ -10,15 +9,13 @@ use Rattle.mpt_spec.specs.declared.pointer.Pointer.{Pointer}
 use Rattle.mpt_spec.specs.declared.entry.Base.{Base}
 use Rattle.mpt_spec.specs.declared.entry.Ext.{Ext}
 use Rattle.mpt_spec.specs.declared.tables.Table.{Table}
-use Rattle.mpt_spec.specs.declared.tables.Body.{Body}
 use Rattle.mpt_spec.specs.declared.tables.Body.TheVariants as body
-use Rattle.mpt_spec.specs.declared.tables.Tables.{Tables}
 use Rattle.mpt_spec.specs.Pointer.{IsFloatingPointer}
 use Rattle.mpt_spec.specs.Search.{search_places, HasPointerAt, IsFirst, HoldsAtNone, IsFirstPointerAt, HasNoPointer}
 use Rattle.mpt_spec.specs.Entries.{AreBaseEntries, IsBaseFaultIn}
 use Rattle.mpt_spec.specs.Extended.{AreExtEntries, IsExtFaultIn}
-use Rattle.mpt_spec.specs.Table.{default_number, base_length_at, ext_length_at, count_at, base_end, ext_end, HasBaseInside, HasExtInside, HasChecksum, HasExtChecksum, IsConfigurationTable, IsBodyOf, Describes}
-use Rattle.mpt_spec.specs.Faults.{address_at, default_at, HasPointerFaultAt, HasBadCountAt, HasTableFaultAt, HasNoPointerFault, HasFaultAt, fault_order, IsFirstFault}
+use Rattle.mpt_spec.specs.Table.{default_number, base_length_at, ext_length_at, count_at, base_end, ext_end, HasBaseInside, HasExtInside, HasChecksum, HasExtChecksum, IsConfigurationTable}
+use Rattle.mpt_spec.specs.Faults.{address_at, default_at, HasPointerFaultAt, HasBadCountAt, HasTableFaultAt, fault_order}
 use Rattle.mpt_spec.specs.Laws.{IsDescribed, HasFirstFault}
 use Rattle.mpt_spec.proofs.EntryLemmas.{AreBaseEntries-unique, IsBaseFaultIn-no_entries}
 use Rattle.mpt_spec.proofs.EntryJudgment.{Decided, decided-eq, decided-list, AreJudgedBase, AreJudgedExt, AreBaseEntries-judged, AreExtEntries-judged}
@@ -29,24 +26,26 @@ use Rattle.mpt_spec.proofs.FirstFaultLemmas.{HasTableFaultAt-offset, HasSoundHea
 pointer_decided : (bytes : List ℕ) → Decided ((p : Pointer) × IsFloatingPointer p bytes)
 pointer_decided bytes = by_parts (decided-eq (length bytes) 16) (decided-list (part bytes 0 4) (codes "_MP_")) (decided-eq (slice_index bytes 8) 1) (decided-eq (sum bytes % 256) 0)
   where
-  by_parts : Decided (length bytes ≡ 16) → Decided (part bytes 0 4 ≡ codes "_MP_") → Decided (slice_index bytes 8 ≡ 1) → Decided (SumsToZero bytes) → Decided ((p : Pointer) × IsFloatingPointer p bytes)
-  by_parts (inl size) (inl signature) (inl paragraphs) (inl checksum) =
-      inl (record { address = number_at 4 bytes 4; revision = slice_index bytes 9; features = part bytes 11 5 },
-        record { size = size; signature = signature; address = refl; paragraphs = paragraphs; revision = refl; features = refl; checksum = checksum })
-  by_parts (inr n) _ _ _ = inr (λ h. n h.1.size)
-  by_parts (inl _) (inr n) _ _ = inr (λ h. n h.1.signature)
-  by_parts (inl _) (inl _) (inr n) _ = inr (λ h. n h.1.paragraphs)
-  by_parts (inl _) (inl _) (inl _) (inr n) = inr (λ h. n h.1.checksum)
+    by_parts : Decided (length bytes ≡ 16) → Decided (part bytes 0 4 ≡ codes "_MP_") → Decided (slice_index bytes 8 ≡ 1) → Decided (SumsToZero bytes) → Decided ((p : Pointer) × IsFloatingPointer p bytes)
+    by_parts (inl size) (inl signature) (inl paragraphs) (inl checksum) =
+        inl (
+          record { address = number_at 4 bytes 4; revision = slice_index bytes 9; features = part bytes 11 5 },
+          record { size = size; signature = signature; address = refl; paragraphs = paragraphs; revision = refl; features = refl; checksum = checksum },
+        )
+    by_parts (inr n) _ _ _ = inr (λ h. n h.1.size)
+    by_parts (inl _) (inr n) _ _ = inr (λ h. n h.1.signature)
+    by_parts (inl _) (inl _) (inr n) _ = inr (λ h. n h.1.paragraphs)
+    by_parts (inl _) (inl _) (inl _) (inr n) = inr (λ h. n h.1.checksum)
 
 -- a list has a first member at which a decided fact holds, or has none
 first_decided : (P : ℕ → Type 0) → ((x : ℕ) → Decided (P x)) → (xs : List ℕ) → HoldsAtNone P xs ⊎ ((x : ℕ) × IsFirst P xs x)
 first_decided P d [] = inl tt
 first_decided P d (x ∷ xs) = by_head (d x) (first_decided P d xs)
   where
-  by_head : Decided (P x) → HoldsAtNone P xs ⊎ ((y : ℕ) × IsFirst P xs y) → HoldsAtNone P (x ∷ xs) ⊎ ((y : ℕ) × IsFirst P (x ∷ xs) y)
-  by_head (inl p) _ = inr (x, record { before = []; after = xs; split = refl; none_before = tt; holds = p })
-  by_head (inr n) (inl none) = inl (n, none)
-  by_head (inr n) (inr f) = inr (f.0, record { before = x ∷ f.1.before; after = f.1.after; split = ap (λ ys. x ∷ ys) f.1.split; none_before = (n, f.1.none_before); holds = f.1.holds })
+    by_head : Decided (P x) → HoldsAtNone P xs ⊎ ((y : ℕ) × IsFirst P xs y) → HoldsAtNone P (x ∷ xs) ⊎ ((y : ℕ) × IsFirst P (x ∷ xs) y)
+    by_head (inl p) _ = inr (x, record { before = []; after = xs; split = refl; none_before = tt; holds = p })
+    by_head (inr n) (inl none) = inl (n, none)
+    by_head (inr n) (inr f) = inr (f.0, record { before = x ∷ f.1.before; after = f.1.after; split = ap (λ ys. x ∷ ys) f.1.split; none_before = (n, f.1.none_before); holds = f.1.holds })
 
 -- the first fault of the floating pointer, or none
 record IsLeast (Stands : ℕ → Reason → Type 0) : Type 0 where
@@ -107,22 +106,22 @@ pointer_judged : (image : List ℕ) (at : ℕ) → IsLeast (HasPointerFaultAt im
 unfolding IsNamedInside
 pointer_judged image at = by_default (decided-eq (default_at image at) 0)
   where
-  by_rest : IsNamedInside image at → Decided (slice_index image (at + 9) ≡ 4) → (7 < default_at image at) ⊎ (default_at image at ≤ 7) → IsLeast (HasPointerFaultAt image at) ⊎ IsSoundPointer image at
-  by_rest i (inr n) _ = inl (record { k = at + 9; reason = why.BadRevision; stands = (refl, n); least = λ j v h. revision_least image at j v i h })
-  by_rest i (inl r) (inl d) = inl (record { k = at + 11; reason = why.BadDefault; stands = (refl, d); least = λ j v h. default_least image at j v i r h })
-  by_rest i (inl r) (inr d) = inr (record { named = i; revision = r; default = d })
+    by_rest : IsNamedInside image at → Decided (slice_index image (at + 9) ≡ 4) → (7 < default_at image at) ⊎ (default_at image at ≤ 7) → IsLeast (HasPointerFaultAt image at) ⊎ IsSoundPointer image at
+    by_rest i (inr n) _ = inl (record { k = at + 9; reason = why.BadRevision; stands = (refl, n); least = λ j v h. revision_least image at j v i h })
+    by_rest i (inl r) (inl d) = inl (record { k = at + 11; reason = why.BadDefault; stands = (refl, d); least = λ j v h. default_least image at j v i r h })
+    by_rest i (inl r) (inr d) = inr (record { named = i; revision = r; default = d })
 
-  by_room : default_at image at ≡ 0 → address_at image at ≢ 0 → (length image < address_at image at + 44) ⊎ (address_at image at + 44 ≤ length image) → IsLeast (HasPointerFaultAt image at) ⊎ IsSoundPointer image at
-  by_room z n (inl out) = inl (record { k = at + 4; reason = why.TableOutside; stands = (refl, z, n, out); least = λ j v h. table_outside_least image at j v n h })
-  by_room z n (inr inside) = by_rest (λ e. (n, inside)) (decided-eq (slice_index image (at + 9)) 4) (cases_lt 7 (default_at image at))
+    by_room : default_at image at ≡ 0 → address_at image at ≢ 0 → (length image < address_at image at + 44) ⊎ (address_at image at + 44 ≤ length image) → IsLeast (HasPointerFaultAt image at) ⊎ IsSoundPointer image at
+    by_room z n (inl out) = inl (record { k = at + 4; reason = why.TableOutside; stands = (refl, z, n, out); least = λ j v h. table_outside_least image at j v n h })
+    by_room z n (inr inside) = by_rest (λ e. (n, inside)) (decided-eq (slice_index image (at + 9)) 4) (cases_lt 7 (default_at image at))
 
-  by_address : default_at image at ≡ 0 → Decided (address_at image at ≡ 0) → IsLeast (HasPointerFaultAt image at) ⊎ IsSoundPointer image at
-  by_address z (inl e) = inl (record { k = at + 4; reason = why.NoTable; stands = (refl, z, e); least = λ j v h. no_table_least image at j v h })
-  by_address z (inr n) = by_room z n (cases_lt (length image) (address_at image at + 44))
+    by_address : default_at image at ≡ 0 → Decided (address_at image at ≡ 0) → IsLeast (HasPointerFaultAt image at) ⊎ IsSoundPointer image at
+    by_address z (inl e) = inl (record { k = at + 4; reason = why.NoTable; stands = (refl, z, e); least = λ j v h. no_table_least image at j v h })
+    by_address z (inr n) = by_room z n (cases_lt (length image) (address_at image at + 44))
 
-  by_default : Decided (default_at image at ≡ 0) → IsLeast (HasPointerFaultAt image at) ⊎ IsSoundPointer image at
-  by_default (inl z) = by_address z (decided-eq (address_at image at) 0)
-  by_default (inr n) = by_rest (λ e. absurd (n e)) (decided-eq (slice_index image (at + 9)) 4) (cases_lt 7 (default_at image at))
+    by_default : Decided (default_at image at ≡ 0) → IsLeast (HasPointerFaultAt image at) ⊎ IsSoundPointer image at
+    by_default (inl z) = by_address z (decided-eq (address_at image at) 0)
+    by_default (inr n) = by_rest (λ e. absurd (n e)) (decided-eq (slice_index image (at + 9)) 4) (cases_lt 7 (default_at image at))
 
 -- the rows of the table before which nothing is refused
 signature_least : (image : List ℕ) (at j : ℕ) (v : Reason) → HasTableFaultAt image at j v → fault_order at why.BadSignature ≤ fault_order j v
@@ -203,60 +202,61 @@ IsJudgedTable image at = IsLeast (HasTableFaultAt image at) ⊎ ((t : Table) × 
 table_of_parts : (image : List ℕ) (at : ℕ) (es : List Base) (xs : List Ext) → HasSoundHeader image at → AreBaseEntries es image (at + 44) (base_end image at) → length es ≡ count_at image at
     → AreExtEntries xs image (base_end image at) (ext_end image at) → (t : Table) × IsConfigurationTable t image at
 table_of_parts image at es xs s tiles count exts = (
-    record {
-      revision = slice_index image (at + 6);
-      oem = part image (at + 8) 8;
-      product = part image (at + 16) 12;
-      oem_table = number_at 4 image (at + 28);
-      oem_size = number_at 2 image (at + 32);
-      local_address = number_at 4 image (at + 36);
-      reserved = slice_index image (at + 43);
-      base = es;
-      ext = xs;
-    },
-    record {
-      inside = s.inside;
-      header = record { signature = s.signature; revision = refl; oem = refl; product = refl; oem_table = refl; oem_size = refl; local_address = refl; reserved = refl };
-      revision = s.revision;
-      checksum = s.checksum;
-      count = count;
-      base = tiles;
-      ext_checksum = s.ext_checksum;
-      ext = exts;
-    })
+  record {
+    revision = slice_index image (at + 6);
+    oem = part image (at + 8) 8;
+    product = part image (at + 16) 12;
+    oem_table = number_at 4 image (at + 28);
+    oem_size = number_at 2 image (at + 32);
+    local_address = number_at 4 image (at + 36);
+    reserved = slice_index image (at + 43);
+    base = es;
+    ext = xs;
+  },
+  record {
+    inside = s.inside;
+    header = record { signature = s.signature; revision = refl; oem = refl; product = refl; oem_table = refl; oem_size = refl; local_address = refl; reserved = refl };
+    revision = s.revision;
+    checksum = s.checksum;
+    count = count;
+    base = tiles;
+    ext_checksum = s.ext_checksum;
+    ext = exts;
+  },
+)
 
 -- where the base entries are told, the rows from the extended length on
 judged_behind : (image : List ℕ) (at : ℕ) → PassesRevision image at → HasChecksum image at → ((k : ℕ) → ¬ HasBadCountAt image at k) → (HasSoundHeader image at → IsJudgedTable image at) → IsJudgedTable image at
 unfolding IsJudgedTable
 judged_behind image at p c n go = by_room (cases_lt (length image) (ext_end image at))
   where
-  by_sum : HasExtInside image at → Decided (HasExtChecksum image at) → IsLeast (HasTableFaultAt image at) ⊎ ((t : Table) × IsConfigurationTable t image at)
-  by_sum e (inl s) = go (record { signature = p.signature; inside = e; revision = p.revision; checksum = c; ext_checksum = s })
-  by_sum e (inr x) = inl (record { k = at + 42; reason = why.BadExtSum; stands = (refl, e, x); least = λ j v h. ext_sum_least image at j v p c n e h })
+    by_sum : HasExtInside image at → Decided (HasExtChecksum image at) → IsLeast (HasTableFaultAt image at) ⊎ ((t : Table) × IsConfigurationTable t image at)
+    by_sum e (inl s) = go (record { signature = p.signature; inside = e; revision = p.revision; checksum = c; ext_checksum = s })
+    by_sum e (inr x) = inl (record { k = at + 42; reason = why.BadExtSum; stands = (refl, e, x); least = λ j v h. ext_sum_least image at j v p c n e h })
 
-  by_room : (length image < ext_end image at) ⊎ (ext_end image at ≤ length image) → IsLeast (HasTableFaultAt image at) ⊎ ((t : Table) × IsConfigurationTable t image at)
-  by_room (inl out) = inl (record { k = at + 40; reason = why.ExtOutside; stands = (refl, p.inside, out); least = λ j v h. ext_outside_least image at j v p c n h })
-  by_room (inr inside) = by_sum (record { base = p.inside; inside = inside }) (decided-eq (sum (slice_index image (at + 42) ∷ part image (base_end image at) (ext_length_at image at)) % 256) 0)
+    by_room : (length image < ext_end image at) ⊎ (ext_end image at ≤ length image) → IsLeast (HasTableFaultAt image at) ⊎ ((t : Table) × IsConfigurationTable t image at)
+    by_room (inl out) = inl (record { k = at + 40; reason = why.ExtOutside; stands = (refl, p.inside, out); least = λ j v h. ext_outside_least image at j v p c n h })
+    by_room (inr inside) = by_sum (record { base = p.inside; inside = inside }) (decided-eq (sum (slice_index image (at + 42) ∷ part image (base_end image at) (ext_length_at image at)) % 256) 0)
 
 -- the rows from the entries on
 judged_entries : (image : List ℕ) (at : ℕ) → PassesRevision image at → HasChecksum image at → IsJudgedTable image at
 unfolding IsJudgedTable
 judged_entries image at p c = by_entries (AreBaseEntries-judged image (at + 44) (base_end image at) (omega (arith, p.inside.header)))
   where
-  by_exts : (es : List Base) → AreBaseEntries es image (at + 44) (base_end image at) → length es ≡ count_at image at → HasSoundHeader image at → AreJudgedExt image (base_end image at) (ext_end image at) → IsLeast (HasTableFaultAt image at) ⊎ ((t : Table) × IsConfigurationTable t image at)
-  by_exts es tiles count s (inl xs) = inr (table_of_parts image at es xs.0 s tiles count xs.1)
-  by_exts es tiles count s (inr f) = inl (record { k = f.0; reason = f.1; stands = ext_fault_stands image at f.0 f.1 s.inside f.2; least = IsExtFaultIn-first image at f.0 f.1 es s tiles count f.2 })
+    by_exts : (es : List Base) → AreBaseEntries es image (at + 44) (base_end image at) → length es ≡ count_at image at → HasSoundHeader image at → AreJudgedExt image (base_end image at) (ext_end image at) → IsLeast (HasTableFaultAt image at) ⊎ ((t : Table) × IsConfigurationTable t image at)
+    by_exts es tiles count s (inl xs) = inr (table_of_parts image at es xs.0 s tiles count xs.1)
+    by_exts es tiles count s (inr f) = inl (record { k = f.0; reason = f.1; stands = ext_fault_stands image at f.0 f.1 s.inside f.2; least = IsExtFaultIn-first image at f.0 f.1 es s tiles count f.2 })
 
-  by_count : (es : List Base) → AreBaseEntries es image (at + 44) (base_end image at) → Decided (length es ≡ count_at image at) → IsLeast (HasTableFaultAt image at) ⊎ ((t : Table) × IsConfigurationTable t image at)
-  by_count es tiles (inl count) =
-      judged_behind image at p c (λ k h. h.4 (ap length (AreBaseEntries-unique h.2 es image (at + 44) (base_end image at) h.3 tiles) ∙ count))
+    by_count : (es : List Base) → AreBaseEntries es image (at + 44) (base_end image at) → Decided (length es ≡ count_at image at) → IsLeast (HasTableFaultAt image at) ⊎ ((t : Table) × IsConfigurationTable t image at)
+    by_count es tiles (inl count) =
+        judged_behind image at p c (λ k h. h.4 (ap length (AreBaseEntries-unique h.2 es image (at + 44) (base_end image at) h.3 tiles) ∙ count))
         (λ s. by_exts es tiles count s (AreExtEntries-judged image (base_end image at) (ext_end image at) s.inside.inside (omega arith)))
-  by_count es tiles (inr n) = inl (record { k = at + 34; reason = why.BadCount; stands = (refl, p.inside, es, tiles, n); least = λ j v h. count_least image at j v p c h })
+    by_count es tiles (inr n) = inl (record { k = at + 34; reason = why.BadCount; stands = (refl, p.inside, es, tiles, n); least = λ j v h. count_least image at j v p c h })
 
-  by_entries : AreJudgedBase image (at + 44) (base_end image at) → IsLeast (HasTableFaultAt image at) ⊎ ((t : Table) × IsConfigurationTable t image at)
-  by_entries (inl es) = by_count es.0 es.1 (decided-eq (length es.0) (count_at image at))
-  by_entries (inr f) =
-      judged_behind image at p c (λ k h. IsBaseFaultIn-no_entries h.2 image (at + 44) (base_end image at) f.0 f.1 f.2 h.3)
+    by_entries : AreJudgedBase image (at + 44) (base_end image at) → IsLeast (HasTableFaultAt image at) ⊎ ((t : Table) × IsConfigurationTable t image at)
+    by_entries (inl es) = by_count es.0 es.1 (decided-eq (length es.0) (count_at image at))
+    by_entries (inr f) =
+        judged_behind image at p c (λ k h. IsBaseFaultIn-no_entries h.2 image (at + 44) (base_end image at) f.0 f.1 f.2 h.3)
         (λ s. inl (record { k = f.0; reason = f.1; stands = base_fault_stands image at f.0 f.1 p.inside f.2; least = IsBaseFaultIn-first image at f.0 f.1 s f.2 }))
 
 -- a table or its first fault
@@ -264,25 +264,25 @@ table_judged : (image : List ℕ) (at : ℕ) → IsJudgedTable image at
 unfolding IsJudgedTable
 table_judged image at = by_signature (decided-list (part image at 4) (codes "PCMP"))
   where
-  by_sum : PassesRevision image at → Decided (HasChecksum image at) → IsLeast (HasTableFaultAt image at) ⊎ ((t : Table) × IsConfigurationTable t image at)
-  by_sum p (inl c) = judged_entries image at p c
-  by_sum p (inr n) = inl (record { k = at + 7; reason = why.BadSum; stands = (refl, p.inside, n); least = λ j v h. sum_least image at j v p h })
+    by_sum : PassesRevision image at → Decided (HasChecksum image at) → IsLeast (HasTableFaultAt image at) ⊎ ((t : Table) × IsConfigurationTable t image at)
+    by_sum p (inl c) = judged_entries image at p c
+    by_sum p (inr n) = inl (record { k = at + 7; reason = why.BadSum; stands = (refl, p.inside, n); least = λ j v h. sum_least image at j v p h })
 
-  by_revision : part image at 4 ≡ codes "PCMP" → HasBaseInside image at → Decided (slice_index image (at + 6) ≡ 4) → IsLeast (HasTableFaultAt image at) ⊎ ((t : Table) × IsConfigurationTable t image at)
-  by_revision s b (inl r) = by_sum (record { signature = s; inside = b; revision = r }) (decided-eq (sum (part image at (base_length_at image at)) % 256) 0)
-  by_revision s b (inr n) = inl (record { k = at + 6; reason = why.BadRevision; stands = (refl, n); least = λ j v h. header_revision_least image at j v s b h })
+    by_revision : part image at 4 ≡ codes "PCMP" → HasBaseInside image at → Decided (slice_index image (at + 6) ≡ 4) → IsLeast (HasTableFaultAt image at) ⊎ ((t : Table) × IsConfigurationTable t image at)
+    by_revision s b (inl r) = by_sum (record { signature = s; inside = b; revision = r }) (decided-eq (sum (part image at (base_length_at image at)) % 256) 0)
+    by_revision s b (inr n) = inl (record { k = at + 6; reason = why.BadRevision; stands = (refl, n); least = λ j v h. header_revision_least image at j v s b h })
 
-  by_room : part image at 4 ≡ codes "PCMP" → 44 ≤ base_length_at image at → (length image < base_end image at) ⊎ (base_end image at ≤ length image) → IsLeast (HasTableFaultAt image at) ⊎ ((t : Table) × IsConfigurationTable t image at)
-  by_room s b (inl out) = inl (record { k = at + 4; reason = why.LengthOutside; stands = (refl, b, out); least = λ j v h. outside_least image at j v s b h })
-  by_room s b (inr i) = by_revision s (record { header = b; inside = i }) (decided-eq (slice_index image (at + 6)) 4)
+    by_room : part image at 4 ≡ codes "PCMP" → 44 ≤ base_length_at image at → (length image < base_end image at) ⊎ (base_end image at ≤ length image) → IsLeast (HasTableFaultAt image at) ⊎ ((t : Table) × IsConfigurationTable t image at)
+    by_room s b (inl out) = inl (record { k = at + 4; reason = why.LengthOutside; stands = (refl, b, out); least = λ j v h. outside_least image at j v s b h })
+    by_room s b (inr i) = by_revision s (record { header = b; inside = i }) (decided-eq (slice_index image (at + 6)) 4)
 
-  by_length : part image at 4 ≡ codes "PCMP" → (base_length_at image at < 44) ⊎ (44 ≤ base_length_at image at) → IsLeast (HasTableFaultAt image at) ⊎ ((t : Table) × IsConfigurationTable t image at)
-  by_length s (inl short) = inl (record { k = at + 4; reason = why.ShortLength; stands = (refl, short); least = λ j v h. short_least image at j v s h })
-  by_length s (inr b) = by_room s b (cases_lt (length image) (base_end image at))
+    by_length : part image at 4 ≡ codes "PCMP" → (base_length_at image at < 44) ⊎ (44 ≤ base_length_at image at) → IsLeast (HasTableFaultAt image at) ⊎ ((t : Table) × IsConfigurationTable t image at)
+    by_length s (inl short) = inl (record { k = at + 4; reason = why.ShortLength; stands = (refl, short); least = λ j v h. short_least image at j v s h })
+    by_length s (inr b) = by_room s b (cases_lt (length image) (base_end image at))
 
-  by_signature : Decided (part image at 4 ≡ codes "PCMP") → IsLeast (HasTableFaultAt image at) ⊎ ((t : Table) × IsConfigurationTable t image at)
-  by_signature (inl s) = by_length s (cases_lt (base_length_at image at) 44)
-  by_signature (inr n) = inl (record { k = at; reason = why.BadSignature; stands = (refl, n); least = λ j v h. signature_least image at j v h })
+    by_signature : Decided (part image at 4 ≡ codes "PCMP") → IsLeast (HasTableFaultAt image at) ⊎ ((t : Table) × IsConfigurationTable t image at)
+    by_signature (inl s) = by_length s (cases_lt (base_length_at image at) 44)
+    by_signature (inr n) = inl (record { k = at; reason = why.BadSignature; stands = (refl, n); least = λ j v h. signature_least image at j v h })
 
 -- an image with a first floating pointer describes tables or has a first fault
 module _ (image : List ℕ) (at : ℕ) (first : IsFirstPointerAt image at) (p : Pointer) (there : IsFloatingPointer p (part image at 16)) (s : IsSoundPointer image at) where
@@ -293,22 +293,24 @@ module _ (image : List ℕ) (at : ℕ) (first : IsFirstPointerAt image at) (p : 
   default_described n =
       let number : default_number p ≡ default_at image at = fields.default in
       let some : 1 ≤ default_number p = omega (arith, n) in
-      let low : default_number p ≤ 7 = omega (arith, s.default) in
-      (record { at = at; pointer = p; body = body.Default (default_number p) },
-        record { first = first; tables_there = record { pointer = there; revision = fields.revision ∙ s.revision; body = (refl, some, low) } })
+      let low : default_number p ≤ 7 = omega (arith, s.default) in (
+        record { at = at; pointer = p; body = body.Default (default_number p) },
+        record { first = first; tables_there = record { pointer = there; revision = fields.revision ∙ s.revision; body = (refl, some, low) } },
+      )
 
   table_described : default_at image at ≡ 0 → (t : Table) → IsConfigurationTable t image (address_at image at) → IsDescribed image
   unfolding IsNamedInside
-  table_described z t c =
-      (record { at = at; pointer = p; body = body.Listed t },
-        record {
-          first = first;
-          tables_there = record {
-            pointer = there;
-            revision = fields.revision ∙ s.revision;
-            body = (fields.default ∙ z, λ e. (s.named z).0 (sym fields.address ∙ e), subst (λ x. IsConfigurationTable t image x) (sym fields.address) c);
-          };
-        })
+  table_described z t c = (
+    record { at = at; pointer = p; body = body.Listed t },
+    record {
+      first = first;
+      tables_there = record {
+        pointer = there;
+        revision = fields.revision ∙ s.revision;
+        body = (fields.default ∙ z, λ e. (s.named z).0 (sym fields.address ∙ e), subst (λ x. IsConfigurationTable t image x) (sym fields.address) c);
+      };
+    },
+  )
 
   table_refused : default_at image at ≡ 0 → IsLeast (HasTableFaultAt image (address_at image at)) → HasFirstFault image
   table_refused z l =
@@ -324,10 +326,10 @@ module _ (image : List ℕ) (at : ℕ) (first : IsFirstPointerAt image at) (p : 
 pub image-judged : (image : List ℕ) → HasNoPointer image ⊎ (IsDescribed image ⊎ HasFirstFault image)
 image-judged image = by_search (first_decided (HasPointerAt image) (λ at. pointer_decided (part image at 16)) (search_places image))
   where
-  by_pointer : (at : ℕ) → IsFirstPointerAt image at → IsLeast (HasPointerFaultAt image at) ⊎ IsSoundPointer image at → IsDescribed image ⊎ HasFirstFault image
-  by_pointer at f (inl l) = inr (l.k, l.reason, IsFirstFault-of_pointer image at l.k l.reason f l.stands l.least)
-  by_pointer at f (inr s) = body_judged image at f f.holds.0 f.holds.1 s (decided-eq (default_at image at) 0) (table_judged image (address_at image at))
+    by_pointer : (at : ℕ) → IsFirstPointerAt image at → IsLeast (HasPointerFaultAt image at) ⊎ IsSoundPointer image at → IsDescribed image ⊎ HasFirstFault image
+    by_pointer at f (inl l) = inr (l.k, l.reason, IsFirstFault-of_pointer image at l.k l.reason f l.stands l.least)
+    by_pointer at f (inr s) = body_judged image at f f.holds.0 f.holds.1 s (decided-eq (default_at image at) 0) (table_judged image (address_at image at))
 
-  by_search : HasNoPointer image ⊎ ((at : ℕ) × IsFirstPointerAt image at) → HasNoPointer image ⊎ (IsDescribed image ⊎ HasFirstFault image)
-  by_search (inl none) = inl none
-  by_search (inr f) = inr (by_pointer f.0 f.1 (pointer_judged image f.0))
+    by_search : HasNoPointer image ⊎ ((at : ℕ) × IsFirstPointerAt image at) → HasNoPointer image ⊎ (IsDescribed image ⊎ HasFirstFault image)
+    by_search (inl none) = inl none
+    by_search (inr f) = inr (by_pointer f.0 f.1 (pointer_judged image f.0))
