@@ -324,10 +324,11 @@ ext_fault bytes from to k why.BadExtType h =
     (subst (HasExtEntriesBefore bytes from to) same_place h.before, subst (λ (n : ℕ). slice_index bytes n < 128) same_place h.blame.1)
 ext_fault bytes from to k why.BadExtLength h = (h.place, h.blame.0, h.before, h.blame.1, h.blame.2, h.blame.3)
 ext_fault bytes from to k why.CutExtEntry h =
-    let same_place : h.place ≡ k = sym h.blame.0 in
-    (subst (HasExtEntriesBefore bytes from to) same_place h.before
-    , subst (λ (n : ℕ). 128 ≤ slice_index bytes n) same_place h.blame.1
-    , subst (λ (n : ℕ). (n + 1 ≡ to) ⊎ (IsLengthOfExtType (slice_index bytes n) (slice_index bytes (n + 1)) × (to < n + slice_index bytes (n + 1)))) same_place h.blame.2)
+    let same_place : h.place ≡ k = sym h.blame.0 in (
+      subst (HasExtEntriesBefore bytes from to) same_place h.before,
+      subst (λ (n : ℕ). 128 ≤ slice_index bytes n) same_place h.blame.1,
+      subst (λ (n : ℕ). (n + 1 ≡ to) ⊎ (IsLengthOfExtType (slice_index bytes n) (slice_index bytes (n + 1)) × (to < n + slice_index bytes (n + 1)))) same_place h.blame.2,
+    )
 ext_fault bytes from to k _ h = absurd h.blame
 
 ext_blame_stuck : (bytes : List ℕ) (to at k : ℕ) (w : Reason) → IsExtBlameAt bytes to at k w → (e : Ext) → IsExtEntryAt e bytes at → to < at + ext_length e
