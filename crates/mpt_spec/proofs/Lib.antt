@@ -1,16 +1,6 @@
 pub mod EntryLemmas
 pub mod SearchLemmas
 pub mod CallerLemmas
-pub mod ByteLemmas
-pub mod WrittenLemmas
 pub mod TableLemmas
 pub mod FaultLemmas
 pub mod FirstFaultLemmas
-pub mod ExampleLemmas
-pub mod FaultExamples
-pub mod WrittenTableLemmas
-pub mod WrittenImageLemmas
-pub mod CanonicalLemmas
-pub mod WellFormedLemmas
-pub mod SpellingLemmas
-pub mod ValueLemmas

@@ -3,13 +3,13 @@
 #![tactic(auto)]
 
 mod entry;
-pub mod examples;
-pub mod laws;
+mod interrupt;
 mod pointer;
 mod sequence;
 mod tables;
 
 pub use entry::{Base, Bus, Ext, Hierarchy, IntEntry, IoApic, Modifier, Opaque, Processor, Space};
+pub use interrupt::{Kind, Polarity, Trigger};
 pub use pointer::{Area, Pointer};
 pub use sequence::Sequence;
 pub use tables::{Body, Table, Tables};

@@ -31,8 +31,10 @@ pub(crate) fn put_text<O: Sink>(out: &mut O, text: &[u8]) -> Result<(), Failed>
 
 /// Puts a line of these parts, without taking memory. It ends at the first put that fails.
 pub(crate) fn put_line<O: Sink>(out: &mut O, parts: &[&[u8]]) -> Result<(), Failed>
-    ensures ok { OnOk result (Appends (O.written out.old) (O.written out.new) (line (map (λ part. part.now) parts.now))) }
-    ensures err { OnErr result (AppendsPrefix (O.written out.old) (O.written out.new) (line (map (λ part. part.now) parts.now))) }
+    ensures ok { OnOk result (Appends (O.written out.old) (O.written out.new)
+        (line (map (λ part. part.now) parts.now))) }
+    ensures err { OnErr result (AppendsPrefix (O.written out.old) (O.written out.new)
+        (line (map (λ part. part.now) parts.now))) }
     ensures failed { OnErr result (Rose (O.faults out.old) (O.faults out.new)) }
     ensures faults_never_fall { O.faults out.old ≤ O.faults out.new }
 {
@@ -57,7 +59,8 @@ pub(crate) fn deliver_text<O: Sink>(out: &mut O, status: u8, text: &[u8]) -> u8
 
 /// Delivers a line of these parts, without taking memory.
 pub(crate) fn deliver_line<O: Sink>(out: &mut O, status: u8, parts: &[&[u8]]) -> u8
-    ensures delivered { IsDelivered result status (line (map (λ part. part.now) parts.now)) (O.written out.old) (O.written out.new) }
+    ensures delivered { IsDelivered result status (line (map (λ part. part.now) parts.now))
+        (O.written out.old) (O.written out.new) }
     ensures unwritten { status ≢ 5 → result ≡ 5 → Rose (O.faults out.old) (O.faults out.new) }
 {
     match put_line(out, parts) {

@@ -35,8 +35,10 @@ pub(crate) fn read_file<S: Shelf>(
     ensures read { IfOk result (λ bytes. Holds (S.files shelf.old) name.now (Some bytes.items)) }
     ensures within { IfOk result (λ bytes. length bytes.items ≤ limit) }
     ensures cause { IfErr result (λ failure. IsCauseOf failure (S.files shelf.old) name.now limit) }
-    ensures missing { result ≡ Err FileFailure.Missing → Rose (S.misses shelf.old) (S.misses shelf.new) }
-    ensures unread { result ≡ Err FileFailure.Unread → Rose (S.faults shelf.old) (S.faults shelf.new) }
+    ensures missing { result ≡ Err FileFailure.Missing
+        → Rose (S.misses shelf.old) (S.misses shelf.new) }
+    ensures unread { result ≡ Err FileFailure.Unread
+        → Rose (S.faults shelf.old) (S.faults shelf.new) }
 {
     let size = match shelf.size(name) {
         Ok(Some(size)) => size,

@@ -17,13 +17,9 @@ use std::alloc::Global;
 const IMAGE_LIMIT: u64 = 16_777_216;
 
 /// Shows the image of this name, and answers the status.
-pub(crate) fn show<S: Shelf, O: Sink>(
-    alloc: Global,
-    name: &str,
-    shelf: &mut S,
-    out: &mut O,
-) -> u8
-    ensures due { (status : ℕ) × (text : List ℕ) × IsShowDue name.now (S.files shelf.old) status text
+pub(crate) fn show<S: Shelf, O: Sink>(alloc: Global, name: &str, shelf: &mut S, out: &mut O) -> u8
+    ensures due { (status : ℕ) × (text : List ℕ)
+        × IsShowDue name.now (S.files shelf.old) status text
         × IsDelivered result status text (O.written out.old) (O.written out.new) }
     ensures missing { result ≡ 3 → Rose (S.misses shelf.old) (S.misses shelf.new) }
     ensures unread { result ≡ 4 → Rose (S.faults shelf.old) (S.faults shelf.new) }
@@ -54,7 +50,8 @@ fn show_image<O: Sink>(alloc: Global, image: &[u8], out: &mut O) -> u8
 }
 
 fn refuse_size<O: Sink>(name: &str, size: u64, out: &mut O) -> u8
-    ensures delivered { IsDelivered result 10 (too_large_line name.now size) (O.written out.old) (O.written out.new) }
+    ensures delivered { IsDelivered result 10 (too_large_line name.now size)
+        (O.written out.old) (O.written out.new) }
     ensures unwritten { result ≡ 5 → Rose (O.faults out.old) (O.faults out.new) }
 {
     let mut buffer = Buffer::new();
@@ -62,6 +59,11 @@ fn refuse_size<O: Sink>(name: &str, size: u64, out: &mut O) -> u8
     deliver_line(
         out,
         TOO_LARGE,
-        &[b"mptab: too large ", name.as_bytes(), b" ", digits.as_bytes()],
+        &[
+            b"mptab: too large ",
+            name.as_bytes(),
+            b" ",
+            digits.as_bytes(),
+        ],
     )
 }
