@@ -5,7 +5,7 @@ use Rattle.mpt_spec.specs.declared.pointer.Pointer.{Pointer}
 use Rattle.mpt_spec.specs.Pointer.{IsFloatingPointer}
 use Rattle.std.proofs.lemmas.Bool.{cases_lt}
 use Rattle.std.specs.Int.{div_ceil}
-use Rattle.std.specs.List.{AllByRecursion, range_with_len}
+use Rattle.std.specs.List.{range_with_len}
 use Rattle.mpt_spec.specs.Search.{IsFirst, HoldsAtNone, HasPointerAt}
 use Rattle.mpt_spec.proofs.SearchLemmas.{IsFirst-unique}
 

@@ -1,7 +1,6 @@
 -- An answer with its cause is the only one: tables, no pointer and a first fault exclude each other.
-use Rattle.std.proofs.Common.{◌≡◌, ℕ, Result, Ok, Err, IfOk, IfErr, List, refl, sym, ◌∙◌}
+use Rattle.std.proofs.Common.{◌≡◌, ℕ, Result, Ok, Err, IfOk, IfErr, List, refl}
 use Rattle.mpt_base.specs.declared.fault.Reason.{Reason}
-use Rattle.mpt_base.specs.declared.fault.Fault.{Fault}
 use Rattle.mpt_spec.specs.declared.tables.Tables.{Tables}
 use Rattle.mpt_spec.specs.Search.{HasNoPointer, HasPointerAt, search_places, IsFirstPointerAt}
 use Rattle.mpt_spec.specs.Table.{Describes}

@@ -1,5 +1,5 @@
 -- The faults of the floating pointer from left to right: once a row doesn't stand, no fault is before the next row.
-use Rattle.std.proofs.Common.{◌≡◌, ℕ, ◌+◌, ◌*◌, ◌≤◌, ◌<◌, List, length, sym, ◌∙◌, arith}
+use Rattle.std.proofs.Common.{◌≡◌, ℕ, ◌+◌, ◌≤◌, List, length, sym, ◌∙◌, arith}
 use Rattle.mpt_base.specs.Bytes.{part}
 use Rattle.mpt_spec.specs.declared.pointer.Pointer.{Pointer}
 use Rattle.mpt_spec.specs.Pointer.{IsFloatingPointer}

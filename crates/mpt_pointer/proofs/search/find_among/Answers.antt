@@ -1,9 +1,9 @@
-use Rattle.std.proofs.Common.{◌+◌, get_or, drop, subst}
+use Rattle.std.proofs.Common.{◌+◌, get_or, drop}
 use Rattle.std.specs.List.{flat_map}
 use Rattle.std.proofs.lemmas.List.{drop_more}
 use Rattle.mpt_spec.specs.declared.pointer.Area.{Area}
 use Rattle.mpt_spec.specs.Search.{HasPointerAt, places_in}
-use Rattle.mpt_pointer.proofs.FirstLemmas.{KeepsFirst, KeepsFirst-behind}
+use Rattle.mpt_pointer.proofs.FirstLemmas.{KeepsFirst-behind}
 use Rattle.mpt_pointer.proofs.search.find_among.Goals as goal
 
 pub loop-area-preserved : goal.loop-area-preserved

@@ -1,4 +1,4 @@
-use Rattle.std.proofs.Common.{ℕ, drop}
+use Rattle.std.proofs.Common.{drop}
 use Rattle.std.specs.List.{flat_map}
 use Rattle.mpt_spec.specs.Search.{places_in, HasPointerAt}
 use Rattle.mpt_pointer.proofs.FirstLemmas.{KeepsFirst}

@@ -1,4 +1,4 @@
-use Rattle.mpt_pointer.proofs.FirstLemmas.{is_some_where_there, none_past_end}
+use Rattle.mpt_pointer.proofs.FirstLemmas.{is_some_where_there}
 use Rattle.mpt_pointer.proofs.search.has_pointer_at.Goals as goal
 
 pub returns : goal.returns
