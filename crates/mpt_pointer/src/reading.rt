@@ -14,8 +14,8 @@ const SIGNATURE: [u8; 4] = *b"_MP_";
 /// The length of a floating pointer in units of sixteen bytes.
 const PARAGRAPHS: u8 = 1;
 
-/// The floating pointer that the bytes are, and `None` exactly where they are none: the signature,
-/// the length byte or the checksum isn't right.
+/// The floating pointer that the bytes are (figure 4-2), and `None` exactly where they are none: the
+/// signature, the length byte or the checksum isn't right. Any revision is taken.
 pub fn read_pointer(bytes: &[u8; 16]) -> Option<Pointer>
     ensures some { IfSome result (λ p. IsFloatingPointer p bytes.now) }
     ensures none { IfNone result ((p : FloatingPointer) → ¬ IsFloatingPointer p bytes.now) }
@@ -30,11 +30,13 @@ pub fn read_pointer(bytes: &[u8; 16]) -> Option<Pointer>
     })
 }
 
-/// The floating pointer at a place of an image, and `None` exactly where none stands there.
+/// The floating pointer at a place of an image, an offset in bytes, and `None` exactly where none
+/// stands there. Any place will do, not only a multiple of 16.
 pub fn pointer_at(image: &[u8], at: usize) -> Option<Pointer>
     requires { at ≤ length image.now }
     ensures some { IfSome result (λ p. IsFloatingPointer p (part image.now at 16)) }
-    ensures none { IfNone result ((p : FloatingPointer) → ¬ IsFloatingPointer p (part image.now at 16)) }
+    ensures none { IfNone result
+        ((p : FloatingPointer) → ¬ IsFloatingPointer p (part image.now at 16)) }
 {
     let (_, rest) = image.split_at(at);
     match rest.first_chunk::<16>() {

@@ -93,7 +93,8 @@ pub(crate) fn header_fault(image: &[u8], at: usize) -> Option<Fault>
 fn has_ext_checksum(image: &[u8], at: usize, base_end: usize, ext_length: usize) -> bool
     requires header { at + 44 ≤ length image.now }
     requires inside { base_end + ext_length ≤ length image.now }
-    ensures { IsTrue result ↔ SumsToZero (slice_index image.now (at + 42) ∷ part image.now base_end ext_length) }
+    ensures { IsTrue result
+        ↔ SumsToZero (slice_index image.now (at + 42) ∷ part image.now base_end ext_length) }
 {
     sum8(part_at(image, base_end, ext_length)).wrapping_add(image[at + 42]) == 0
 }

@@ -6,6 +6,8 @@ mod header;
 mod pointer_fault;
 mod reading;
 mod refusal;
+#[cfg(test)]
+mod tests;
 
 pub use mpt_spec::{Body, Pointer, Table, Tables};
 pub use reading::read;

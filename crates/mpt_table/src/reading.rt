@@ -27,8 +27,8 @@ use mpt_pointer::{find, pointer_at};
 use mpt_spec::{Base, Body, Pointer, Table, Tables};
 use std::alloc::Global;
 
-// The base entries, as many as the count says, or their own fault, which later rows may be before. A
-// wrong count is the first fault.
+// The base entries, as many as the count says, or their own fault, before which the extended part's
+// may stand. A wrong count is the first fault.
 fn counted_base(alloc: Global, image: &[u8], at: usize) -> Result<Result<Vec<Base>, Fault>, Stop>
     requires header { at + 44 ≤ length image.now }
     requires right { HasRightHeader image.now at }
@@ -95,7 +95,8 @@ fn body_of(alloc: Global, image: &[u8], pointer: &Pointer) -> Result<Body, Stop>
     requires { HasRightPointer pointer.now (length image.now) }
     ensures body { IfOk result (λ b. IsBodyOf b pointer.now image.now) }
     ensures listed { IfFault result (λ f. default_number pointer.now ≡ 0) }
-    ensures fault { IfFault result (λ f. IsLeast (HasTableFaultAt image.now pointer.now.address) f.at f.why) }
+    ensures fault { IfFault result (λ f.
+        IsLeast (HasTableFaultAt image.now pointer.now.address) f.at f.why) }
 {
     match pointer.features[0] {
         0 => Ok(Body::Listed(read_table(alloc, image, pointer.address as usize)?)),
@@ -134,14 +135,21 @@ fn answer(alloc: Global, image: &[u8]) -> Result<Tables, Refusal>
     }
 }
 
-/// What tables the image describes, or why it is refused: no floating pointer, or the first fault.
+/// What tables an image of low memory describes, or why it is refused (chapter 4).
+///
+/// The bytes of the image are those from address 0 on. It is refused where the search finds no
+/// floating pointer, or for the first fault: the one at the lowest offset, and of those at one offset
+/// the one with the lowest number. A table's faults come only behind a floating pointer without any.
+/// The table of a default configuration isn't read. Where memory runs out, that is the answer.
 pub fn read(alloc: Global, image: &[u8]) -> Result<Tables, Refusal>
     ensures tables { IfOk result (Describes image.now) }
     ensures refused { IfErr result (IsCauseOf image.now) }
     // Each answer comes exactly where it is right, unless memory runs out.
-    ensures only_tables { (tables : TablesOf) → Describes image.now tables → AnswersTables result tables }
+    ensures only_tables { (tables : TablesOf) → Describes image.now tables
+        → AnswersTables result tables }
     ensures only_no_pointer { HasNoPointer image.now → result ≡ Err Refusal.NoPointer }
-    ensures only_fault { (k : ℕ) (why : ReasonOf) → IsFirstFault image.now k why → AnswersFault result k why }
+    ensures only_fault { (k : ℕ) (why : ReasonOf) → IsFirstFault image.now k why
+        → AnswersFault result k why }
 {
     answer(alloc, image)
 }

@@ -5,10 +5,10 @@ use mpt_base::Fault;
 /// Why an image is refused.
 #[derive(Clone, Copy, Debug, PartialEq, Eq)]
 pub enum Refusal {
-    /// The search finds no floating pointer.
+    /// The search finds no floating pointer (section 4.1).
     NoPointer,
-    /// The first fault of the floating pointer or of the table.
+    /// The first fault of the floating pointer or of the table, and its offset in the image.
     Fault(Fault),
-    /// Memory ran out.
+    /// Memory ran out. It is taken only for the entries of a table.
     NoMemory,
 }

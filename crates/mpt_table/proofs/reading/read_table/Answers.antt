@@ -1,4 +1,5 @@
-use Rattle.mpt_table.proofs.TableFaults.{base_fault_is_least, stands_of_base_fault}
+use Rattle.mpt_spec.proofs.FirstFaultLemmas.{IsBaseFaultIn-first}
+use Rattle.mpt_table.proofs.TableFaults.{HasRightHeader-sound, stands_of_base_fault}
 use Rattle.mpt_table.proofs.reading.read_table.Goals as goal
 
 pub returns-in-Err-clause-fault : goal.returns-in-Err-clause-fault
@@ -8,5 +9,5 @@ returns-in-Err-clause-fault c =
     let there = rw c.in-Err.is at c.in_ok-base.ensures.fault in
     record {
       stands = stands_of_base_fault c.args.image.now c.args.at f.at f.why right.inside there;
-      least = base_fault_is_least c.args.image.now c.args.at f.at f.why right c.in_ok-base.ensures.count c.in_default-ext_header_fault.ensures.none there;
+      least = IsBaseFaultIn-first c.args.image.now c.args.at f.at f.why (HasRightHeader-sound c.args.image.now c.args.at right c.in_default-ext_header_fault.ensures.none) there;
     }

@@ -1,4 +1,5 @@
-use Rattle.mpt_table.proofs.TableFaults.{ext_fault_is_least, stands_of_ext_fault}
+use Rattle.mpt_spec.proofs.FirstFaultLemmas.{IsExtFaultIn-first}
+use Rattle.mpt_table.proofs.TableFaults.{HasRightHeader-sound, stands_of_ext_fault}
 use Rattle.mpt_table.proofs.reading.with_ext.Goals as goal
 
 pub returns-in-Err-Fault-clause-fault : goal.returns-in-Err-Fault-clause-fault
@@ -7,5 +8,7 @@ returns-in-Err-Fault-clause-fault c =
     let there = rw (c.base_length.ensures, c.ext_length.ensures) at (rw c.in-Err-Fault.field-0-is at c.in-Err-Fault.ensures).fault in
     record {
       stands = stands_of_ext_fault c.args.image.now c.args.at f.at f.why c.requires.ext_part.inside there;
-      least = ext_fault_is_least c.args.image.now c.args.at f.at f.why c.args.base.items c.requires.header c.requires.count c.requires.ext_part c.requires.entries there;
+      least =
+          let entries = c.requires.entries in
+          IsExtFaultIn-first c.args.image.now c.args.at f.at f.why c.args.base.items (HasRightHeader-sound c.args.image.now c.args.at c.requires.header c.requires.ext_part) entries (c.requires.count c.args.base.items entries) there;
     }
