@@ -1,0 +1,202 @@
+//! Tables of every entry: each form shown, each type cut at each of its bytes, and opaque entries of the
+//! least and the greatest length.
+
+use crate::harness::{Answer, SMALL_POINTER, WORD, image_with, shown};
+use std::alloc::Global;
+use std::test::Fail;
+
+/// The place of the table.
+const AT: usize = 0x510;
+
+/// The header of the board with one processor; lengths, count and checksums are 0.
+const HEADER: &[u8] = b"PCMP\x00\x00\x04\x00MPTAB   BOARD       \
+\x00\x00\x00\x00\x00\x00\x00\x00\x00\x00\xE0\xFE\x00\x00\x00\x00";
+
+/// What the listing of such a table begins with.
+const HEAD: &str = "mptable 1
+pointer at 00000500 table 00000510 revision 04 features 0000000000
+header revision 04 oem \"MPTAB   \" product \"BOARD       \" oemtable 00000000 oemsize 0000 local FEE00000 reserved 00
+";
+
+/// The checksum of these bytes: their sum and it are 0.
+fn checksum(bytes: &[u8]) -> u8 {
+    let mut sum = 0u8;
+    for byte in bytes {
+        sum = sum.wrapping_add(*byte);
+    }
+    sum.wrapping_neg()
+}
+
+/// The two bytes of a length, the low one first.
+fn length_bytes(length: usize) -> [u8; 2] {
+    [(length % 256) as u8, (length / 256 % 256) as u8]
+}
+
+fn put(image: &mut [u8], at: usize, bytes: &[u8]) {
+    for (cell, byte) in image.iter_mut().skip(at).zip(bytes.iter()) {
+        *cell = *byte;
+    }
+}
+
+/// The bytes of a table with these entries, whose lengths and checksums are right.
+fn table_with(alloc: Global, base: &[u8], count: u8, ext: &[u8]) -> Result<Vec<u8>, Fail> {
+    let mut table = Vec::from_slice(alloc, HEADER)?;
+    table.extend_from_slice(base)?;
+    let base_length = table.len();
+    put(&mut table, 4, &length_bytes(base_length));
+    put(&mut table, 34, &[count]);
+    put(&mut table, 40, &length_bytes(ext.len()));
+    put(&mut table, 42, &[checksum(ext)]);
+    let sum = checksum(table.as_slice());
+    put(&mut table, 7, &[sum]);
+    table.extend_from_slice(ext)?;
+    Ok(table)
+}
+
+/// The answer to an image that ends with a table of these entries.
+fn answer_with(alloc: Global, base: &[u8], count: u8, ext: &[u8]) -> Result<Answer, Fail> {
+    let table = table_with(alloc, base, count, ext)?;
+    let mut image = image_with(alloc, AT, &[WORD, SMALL_POINTER])?;
+    image.extend_from_slice(table.as_slice())?;
+    shown(alloc, image.as_slice())
+}
+
+/// A text of these parts.
+fn text_of(alloc: Global, parts: &[&str]) -> Result<Vec<u8>, Fail> {
+    let mut text = Vec::new(alloc);
+    for part in parts {
+        text.extend_from_slice(part.as_bytes())?;
+    }
+    Ok(text)
+}
+
+/// An entry of each base type, with its line.
+const BASE: [(&[u8], &str); 7] = [
+    (
+        b"\x04\x03\x0D\x1F\x02\x4C\xFF\x17",
+        "localint kind 03 flags 1F0D bus 02 irq 4C dest FF pin 17\n",
+    ),
+    (b"\x01\x00PCI   ", "bus id 00 name \"PCI   \"\n"),
+    (
+        b"\x01\xAB\"\\\x7F\x00 ~",
+        "bus id AB name \"\\x22\\x5C\\x7F\\x00 ~\"\n",
+    ),
+    (
+        b"\x02\x08\x11\x01\x00\x10\xC0\xFE",
+        "ioapic id 08 version 11 flags 01 address FEC01000\n",
+    ),
+    (
+        b"\x03\x00\x05\x80\x01\x0A\x08\x10",
+        "ioint kind 00 flags 8005 bus 01 irq 0A dest 08 pin 10\n",
+    ),
+    (
+        b"\x00\x1E\x14\x82\xEF\xBE\xAD\xDE\x78\x56\x34\x12\x01\x02\x03\x04\xA5\x06\x07\xF8",
+        "processor id 1E version 14 flags 82 signature DEADBEEF features 12345678 reserved 01020304A50607F8\n",
+    ),
+    (
+        b"\x03\xFE\xFF\xFF\xFD\xFC\xFB\xFA",
+        "ioint kind FE flags FFFF bus FD irq FC dest FB pin FA\n",
+    ),
+];
+
+/// An entry of each extended form, with its line.
+const EXT: [(&[u8], &str); 5] = [
+    (b"\x83\x02", "opaque kind 83 rest -\n"),
+    (
+        b"\x80\x14\x01\x02\x10\x32\x54\x76\x98\xBA\xDC\xFE\x00\x10\x00\x00\x00\x00\x00\x80",
+        "space bus 01 kind 02 base FEDCBA9876543210 length 8000000000001000\n",
+    ),
+    (
+        b"\x81\x08\x01\x03\x02\x00\xC0\x09",
+        "hierarchy bus 01 info 03 parent 02 reserved 00C009\n",
+    ),
+    (
+        b"\x82\x08\x00\x81\x01\x00\x00\x80",
+        "modifier bus 00 flags 81 ranges 80000001\n",
+    ),
+    (b"\xFF\x05\x0F\xA0\x22", "opaque kind FF rest 0FA022\n"),
+];
+
+#[test]
+fn every_form(rt: HostRuntime) -> Result<(), Fail> {
+    let mut base = Vec::new(rt.alloc());
+    let mut ext = Vec::new(rt.alloc());
+    let mut text = text_of(rt.alloc(), &[HEAD])?;
+    for (bytes, line) in BASE {
+        base.extend_from_slice(bytes)?;
+        text.extend_from_slice(line.as_bytes())?;
+    }
+    for (bytes, line) in EXT {
+        ext.extend_from_slice(bytes)?;
+        text.extend_from_slice(line.as_bytes())?;
+    }
+    text.extend_from_slice(b"end\n")?;
+    let answer = answer_with(rt.alloc(), base.as_slice(), 7, ext.as_slice())?;
+    assert_eq!(rt; answer.status, 0);
+    assert_eq!(rt; answer.text.as_slice(), text.as_slice());
+    Ok(())
+}
+
+#[test]
+fn every_cut(rt: HostRuntime) -> Result<(), Fail> {
+    for (entry, _) in BASE {
+        for kept in 1..entry.len() {
+            let answer = answer_with(rt.alloc(), entry.get(..kept).unwrap_or(entry), 1, &[])?;
+            assert_eq!(rt; answer.status, 7, "{kept} bytes of {entry:?}");
+            assert_eq!(rt; answer.text.as_slice(), b"mptab: fault 11 CutEntry at 0000053C\n".as_slice());
+        }
+        assert_eq!(rt; answer_with(rt.alloc(), entry, 1, &[])?.status, 0, "{entry:?}");
+    }
+    for (entry, _) in EXT {
+        for kept in 1..entry.len() {
+            let answer = answer_with(rt.alloc(), &[], 0, entry.get(..kept).unwrap_or(entry))?;
+            assert_eq!(rt; answer.status, 7, "{kept} bytes of {entry:?}");
+            assert_eq!(rt; answer.text.as_slice(), b"mptab: fault 16 CutExtEntry at 0000053C\n".as_slice());
+        }
+        assert_eq!(rt; answer_with(rt.alloc(), &[], 0, entry)?.status, 0, "{entry:?}");
+    }
+    Ok(())
+}
+
+#[test]
+fn greatest_opaque_entry(rt: HostRuntime) -> Result<(), Fail> {
+    let mut entry = vec![in rt.alloc(); 0x5A; 255]?;
+    put(&mut entry, 0, b"\x84\xFF");
+    let mut text = text_of(rt.alloc(), &[HEAD, "opaque kind 84 rest "])?;
+    for _ in 0..253 {
+        text.extend_from_slice(b"5A")?;
+    }
+    text.extend_from_slice(b"\nend\n")?;
+    let answer = answer_with(rt.alloc(), &[], 0, entry.as_slice())?;
+    assert_eq!(rt; answer.status, 0);
+    assert_eq!(rt; answer.text.as_slice(), text.as_slice());
+    Ok(())
+}
+
+/// Lengths that are wrong for their type: type, length.
+const LENGTHS: [(u8, u8); 14] = [
+    (0x80, 0),
+    (0x80, 1),
+    (0x80, 19),
+    (0x80, 21),
+    (0x80, 8),
+    (0x81, 7),
+    (0x81, 9),
+    (0x81, 20),
+    (0x82, 7),
+    (0x82, 9),
+    (0x83, 0),
+    (0x83, 1),
+    (0xFF, 0),
+    (0xFF, 1),
+];
+
+#[test]
+fn wrong_lengths(rt: HostRuntime) -> Result<(), Fail> {
+    for (kind, length) in LENGTHS {
+        let answer = answer_with(rt.alloc(), &[], 0, &[kind, length])?;
+        assert_eq!(rt; answer.status, 7, "length {length} of type {kind}");
+        assert_eq!(rt; answer.text.as_slice(), b"mptab: fault 15 BadExtLength at 0000053D\n".as_slice());
+    }
+    Ok(())
+}
