@@ -13,7 +13,14 @@ const REASONS: &[Row] = &[
     Row {
         name: "the pointer's revision is 1",
         size: SMALL,
-        pieces: &[WORD, (0x500, b"_MP_\x10\x05\x00\x00\x01\x01\x8E\x00\x00\x00\x00\x00"), AT],
+        pieces: &[
+            WORD,
+            (
+                0x500,
+                b"_MP_\x10\x05\x00\x00\x01\x01\x8E\x00\x00\x00\x00\x00",
+            ),
+            AT,
+        ],
         status: 7,
         text: "mptab: fault 1 BadRevision at 00000509\n",
     },
@@ -27,28 +34,56 @@ const REASONS: &[Row] = &[
     Row {
         name: "default configuration 8",
         size: SMALL,
-        pieces: &[WORD, (0x500, b"_MP_\x10\x05\x00\x00\x01\x04\x83\x08\x00\x00\x00\x00"), AT],
+        pieces: &[
+            WORD,
+            (
+                0x500,
+                b"_MP_\x10\x05\x00\x00\x01\x04\x83\x08\x00\x00\x00\x00",
+            ),
+            AT,
+        ],
         status: 7,
         text: "mptab: fault 2 BadDefault at 0000050B\n",
     },
     Row {
         name: "no address",
         size: SMALL,
-        pieces: &[WORD, (0x500, b"_MP_\x00\x00\x00\x00\x01\x04\xA0\x00\x00\x00\x00\x00"), AT],
+        pieces: &[
+            WORD,
+            (
+                0x500,
+                b"_MP_\x00\x00\x00\x00\x01\x04\xA0\x00\x00\x00\x00\x00",
+            ),
+            AT,
+        ],
         status: 7,
         text: "mptab: fault 3 NoTable at 00000504\n",
     },
     Row {
         name: "43 bytes of the image are left for a header",
         size: SMALL,
-        pieces: &[WORD, (0x500, b"_MP_\x25\x05\x00\x00\x01\x04\x76\x00\x00\x00\x00\x00"), AT],
+        pieces: &[
+            WORD,
+            (
+                0x500,
+                b"_MP_\x25\x05\x00\x00\x01\x04\x76\x00\x00\x00\x00\x00",
+            ),
+            AT,
+        ],
         status: 7,
         text: "mptab: fault 4 TableOutside at 00000504\n",
     },
     Row {
         name: "44 bytes of the image are left, and are no header",
         size: SMALL,
-        pieces: &[WORD, (0x500, b"_MP_\x24\x05\x00\x00\x01\x04\x77\x00\x00\x00\x00\x00"), AT],
+        pieces: &[
+            WORD,
+            (
+                0x500,
+                b"_MP_\x24\x05\x00\x00\x01\x04\x77\x00\x00\x00\x00\x00",
+            ),
+            AT,
+        ],
         status: 7,
         text: "mptab: fault 5 BadSignature at 00000524\n",
     },
@@ -132,7 +167,14 @@ const REASONS: &[Row] = &[
     Row {
         name: "the extended checksum is 0",
         size: 0x552,
-        pieces: &[WORD, POINTER, AT, (0x538, b"\x02\x00\x00"), (0x517, b"\x97"), (0x550, b"\xC8\x02")],
+        pieces: &[
+            WORD,
+            POINTER,
+            AT,
+            (0x538, b"\x02\x00\x00"),
+            (0x517, b"\x97"),
+            (0x550, b"\xC8\x02"),
+        ],
         status: 7,
         text: "mptab: fault 13 BadExtSum at 0000053A\n",
     },
@@ -146,21 +188,42 @@ const REASONS: &[Row] = &[
     Row {
         name: "extended entry type 7Fh",
         size: 0x552,
-        pieces: &[WORD, POINTER, AT, (0x538, b"\x02\x00\x7F"), (0x517, b"\x18"), (0x550, b"\x7F\x02")],
+        pieces: &[
+            WORD,
+            POINTER,
+            AT,
+            (0x538, b"\x02\x00\x7F"),
+            (0x517, b"\x18"),
+            (0x550, b"\x7F\x02"),
+        ],
         status: 7,
         text: "mptab: fault 14 BadExtType at 00000550\n",
     },
     Row {
         name: "extended entry length 1",
         size: 0x552,
-        pieces: &[WORD, POINTER, AT, (0x538, b"\x02\x00\x37"), (0x517, b"\x60"), (0x550, b"\xC8\x01")],
+        pieces: &[
+            WORD,
+            POINTER,
+            AT,
+            (0x538, b"\x02\x00\x37"),
+            (0x517, b"\x60"),
+            (0x550, b"\xC8\x01"),
+        ],
         status: 7,
         text: "mptab: fault 15 BadExtLength at 00000551\n",
     },
     Row {
         name: "one byte of an extended entry",
         size: 0x551,
-        pieces: &[WORD, POINTER, AT, (0x538, b"\x01\x00\x38"), (0x517, b"\x60"), (0x550, b"\xC8")],
+        pieces: &[
+            WORD,
+            POINTER,
+            AT,
+            (0x538, b"\x01\x00\x38"),
+            (0x517, b"\x60"),
+            (0x550, b"\xC8"),
+        ],
         status: 7,
         text: "mptab: fault 16 CutExtEntry at 00000550\n",
     },
@@ -170,42 +233,83 @@ const PAIRS: &[Row] = &[
     Row {
         name: "pointer: revision before default",
         size: SMALL,
-        pieces: &[WORD, (0x500, b"_MP_\x10\x05\x00\x00\x01\x01\x86\x08\x00\x00\x00\x00"), AT],
+        pieces: &[
+            WORD,
+            (
+                0x500,
+                b"_MP_\x10\x05\x00\x00\x01\x01\x86\x08\x00\x00\x00\x00",
+            ),
+            AT,
+        ],
         status: 7,
         text: "mptab: fault 1 BadRevision at 00000509\n",
     },
     Row {
         name: "pointer: missing table before revision",
         size: SMALL,
-        pieces: &[WORD, (0x500, b"_MP_\x00\x00\x00\x00\x01\x01\xA3\x00\x00\x00\x00\x00"), AT],
+        pieces: &[
+            WORD,
+            (
+                0x500,
+                b"_MP_\x00\x00\x00\x00\x01\x01\xA3\x00\x00\x00\x00\x00",
+            ),
+            AT,
+        ],
         status: 7,
         text: "mptab: fault 3 NoTable at 00000504\n",
     },
     Row {
         name: "pointer: table outside before revision",
         size: SMALL,
-        pieces: &[WORD, (0x500, b"_MP_\x25\x05\x00\x00\x01\x01\x79\x00\x00\x00\x00\x00"), AT],
+        pieces: &[
+            WORD,
+            (
+                0x500,
+                b"_MP_\x25\x05\x00\x00\x01\x01\x79\x00\x00\x00\x00\x00",
+            ),
+            AT,
+        ],
         status: 7,
         text: "mptab: fault 4 TableOutside at 00000504\n",
     },
     Row {
         name: "no address is no fault beside default configuration 8",
         size: SMALL,
-        pieces: &[WORD, (0x500, b"_MP_\x00\x00\x00\x00\x01\x04\x98\x08\x00\x00\x00\x00"), AT],
+        pieces: &[
+            WORD,
+            (
+                0x500,
+                b"_MP_\x00\x00\x00\x00\x01\x04\x98\x08\x00\x00\x00\x00",
+            ),
+            AT,
+        ],
         status: 7,
         text: "mptab: fault 2 BadDefault at 0000050B\n",
     },
     Row {
         name: "an address outside is no fault beside default configuration 8",
         size: SMALL,
-        pieces: &[WORD, (0x500, b"_MP_\x25\x05\x00\x00\x01\x04\x6E\x08\x00\x00\x00\x00"), AT],
+        pieces: &[
+            WORD,
+            (
+                0x500,
+                b"_MP_\x25\x05\x00\x00\x01\x04\x6E\x08\x00\x00\x00\x00",
+            ),
+            AT,
+        ],
         status: 7,
         text: "mptab: fault 2 BadDefault at 0000050B\n",
     },
     Row {
         name: "a faulty table is not asked beside default configuration 7",
         size: SMALL,
-        pieces: &[WORD, (0x500, b"_MP_\x10\x05\x00\x00\x01\x04\x84\x07\x00\x00\x00\x00")],
+        pieces: &[
+            WORD,
+            (
+                0x500,
+                b"_MP_\x10\x05\x00\x00\x01\x04\x84\x07\x00\x00\x00\x00",
+            ),
+        ],
         status: 0,
         text: "mptable 1
 pointer at 00000500 table 00000510 revision 04 features 0700000000
@@ -215,7 +319,14 @@ end
     Row {
         name: "a table below its pointer",
         size: SMALL,
-        pieces: &[WORD, (0x500, b"_MP_\x50\x04\x00\x00\x01\x04\x4C\x00\x00\x00\x00\x00"), (0x450, TABLE)],
+        pieces: &[
+            WORD,
+            (
+                0x500,
+                b"_MP_\x50\x04\x00\x00\x01\x04\x4C\x00\x00\x00\x00\x00",
+            ),
+            (0x450, TABLE),
+        ],
         status: 0,
         text: "mptable 1
 pointer at 00000500 table 00000450 revision 04 features 0000000000
@@ -227,14 +338,26 @@ end
     Row {
         name: "the pointer's revision stands before a signature at a lower offset",
         size: SMALL,
-        pieces: &[WORD, (0x500, b"_MP_\x50\x04\x00\x00\x01\x01\x4F\x00\x00\x00\x00\x00")],
+        pieces: &[
+            WORD,
+            (
+                0x500,
+                b"_MP_\x50\x04\x00\x00\x01\x01\x4F\x00\x00\x00\x00\x00",
+            ),
+        ],
         status: 7,
         text: "mptab: fault 1 BadRevision at 00000509\n",
     },
     Row {
         name: "a signature below its pointer",
         size: SMALL,
-        pieces: &[WORD, (0x500, b"_MP_\x50\x04\x00\x00\x01\x04\x4C\x00\x00\x00\x00\x00")],
+        pieces: &[
+            WORD,
+            (
+                0x500,
+                b"_MP_\x50\x04\x00\x00\x01\x04\x4C\x00\x00\x00\x00\x00",
+            ),
+        ],
         status: 7,
         text: "mptab: fault 5 BadSignature at 00000450\n",
     },
@@ -283,84 +406,172 @@ end
     Row {
         name: "a count is no fault where the entries are none",
         size: SMALL,
-        pieces: &[WORD, POINTER, AT, (0x532, b"\x02"), (0x53C, b"\x05"), (0x517, b"\x93")],
+        pieces: &[
+            WORD,
+            POINTER,
+            AT,
+            (0x532, b"\x02"),
+            (0x53C, b"\x05"),
+            (0x517, b"\x93"),
+        ],
         status: 7,
         text: "mptab: fault 10 UnknownEntry at 0000053C\n",
     },
     Row {
         name: "a count is no fault where an entry is cut",
         size: SMALL,
-        pieces: &[WORD, POINTER, AT, (0x532, b"\x02"), (0x514, b"\x3F"), (0x517, b"\x99")],
+        pieces: &[
+            WORD,
+            POINTER,
+            AT,
+            (0x532, b"\x02"),
+            (0x514, b"\x3F"),
+            (0x517, b"\x99"),
+        ],
         status: 7,
         text: "mptab: fault 11 CutEntry at 0000053C\n",
     },
     Row {
         name: "count before an extended part outside",
         size: SMALL,
-        pieces: &[WORD, POINTER, AT, (0x532, b"\x02"), (0x538, b"\x01"), (0x517, b"\x97")],
+        pieces: &[
+            WORD,
+            POINTER,
+            AT,
+            (0x532, b"\x02"),
+            (0x538, b"\x01"),
+            (0x517, b"\x97"),
+        ],
         status: 7,
         text: "mptab: fault 9 BadCount at 00000532\n",
     },
     Row {
         name: "count before the extended sum",
         size: 0x552,
-        pieces: &[WORD, POINTER, AT, (0x532, b"\x02"), (0x538, b"\x02\x00\x00"), (0x517, b"\x96"), (0x550, b"\xC8\x02")],
+        pieces: &[
+            WORD,
+            POINTER,
+            AT,
+            (0x532, b"\x02"),
+            (0x538, b"\x02\x00\x00"),
+            (0x517, b"\x96"),
+            (0x550, b"\xC8\x02"),
+        ],
         status: 7,
         text: "mptab: fault 9 BadCount at 00000532\n",
     },
     Row {
         name: "an extended part outside before an unknown entry",
         size: SMALL,
-        pieces: &[WORD, POINTER, AT, (0x538, b"\x01"), (0x53C, b"\x05"), (0x517, b"\x93")],
+        pieces: &[
+            WORD,
+            POINTER,
+            AT,
+            (0x538, b"\x01"),
+            (0x53C, b"\x05"),
+            (0x517, b"\x93"),
+        ],
         status: 7,
         text: "mptab: fault 12 ExtOutside at 00000538\n",
     },
     Row {
         name: "an extended part outside before a cut entry",
         size: SMALL,
-        pieces: &[WORD, POINTER, AT, (0x514, b"\x3F"), (0x538, b"\x02"), (0x517, b"\x98")],
+        pieces: &[
+            WORD,
+            POINTER,
+            AT,
+            (0x514, b"\x3F"),
+            (0x538, b"\x02"),
+            (0x517, b"\x98"),
+        ],
         status: 7,
         text: "mptab: fault 12 ExtOutside at 00000538\n",
     },
     Row {
         name: "the extended sum before an unknown entry",
         size: 0x552,
-        pieces: &[WORD, POINTER, AT, (0x538, b"\x02\x00\x00"), (0x53C, b"\x05"), (0x517, b"\x92"), (0x550, b"\xC8\x02")],
+        pieces: &[
+            WORD,
+            POINTER,
+            AT,
+            (0x538, b"\x02\x00\x00"),
+            (0x53C, b"\x05"),
+            (0x517, b"\x92"),
+            (0x550, b"\xC8\x02"),
+        ],
         status: 7,
         text: "mptab: fault 13 BadExtSum at 0000053A\n",
     },
     Row {
         name: "the extended sum before an extended type",
         size: 0x552,
-        pieces: &[WORD, POINTER, AT, (0x538, b"\x02\x00\x00"), (0x517, b"\x97"), (0x550, b"\x7F\x02")],
+        pieces: &[
+            WORD,
+            POINTER,
+            AT,
+            (0x538, b"\x02\x00\x00"),
+            (0x517, b"\x97"),
+            (0x550, b"\x7F\x02"),
+        ],
         status: 7,
         text: "mptab: fault 13 BadExtSum at 0000053A\n",
     },
     Row {
         name: "an unknown entry before an extended type",
         size: 0x552,
-        pieces: &[WORD, POINTER, AT, (0x538, b"\x02\x00\x7F"), (0x53C, b"\x05"), (0x517, b"\x13"), (0x550, b"\x7F\x02")],
+        pieces: &[
+            WORD,
+            POINTER,
+            AT,
+            (0x538, b"\x02\x00\x7F"),
+            (0x53C, b"\x05"),
+            (0x517, b"\x13"),
+            (0x550, b"\x7F\x02"),
+        ],
         status: 7,
         text: "mptab: fault 10 UnknownEntry at 0000053C\n",
     },
     Row {
         name: "a cut entry before an extended type",
         size: 0x551,
-        pieces: &[WORD, POINTER, AT, (0x514, b"\x3F"), (0x538, b"\x02\x00\x7F"), (0x517, b"\x19"), (0x54F, b"\x7F\x02")],
+        pieces: &[
+            WORD,
+            POINTER,
+            AT,
+            (0x514, b"\x3F"),
+            (0x538, b"\x02\x00\x7F"),
+            (0x517, b"\x19"),
+            (0x54F, b"\x7F\x02"),
+        ],
         status: 7,
         text: "mptab: fault 11 CutEntry at 0000053C\n",
     },
     Row {
         name: "an unknown entry behind a whole one",
         size: 0x552,
-        pieces: &[WORD, POINTER, AT, (0x514, b"\x42"), (0x550, b"\x05\x01"), (0x517, b"\x91")],
+        pieces: &[
+            WORD,
+            POINTER,
+            AT,
+            (0x514, b"\x42"),
+            (0x550, b"\x05\x01"),
+            (0x517, b"\x91"),
+        ],
         status: 7,
         text: "mptab: fault 10 UnknownEntry at 00000550\n",
     },
     Row {
         name: "an extended length before a later extended type",
         size: 0x553,
-        pieces: &[WORD, POINTER, AT, (0x538, b"\x03\x00\xB8"), (0x517, b"\xDE"), (0x550, b"\xC8\x01\x7F")],
+        pieces: &[
+            WORD,
+            POINTER,
+            AT,
+            (0x538, b"\x03\x00\xB8"),
+            (0x517, b"\xDE"),
+            (0x550, b"\xC8\x01\x7F"),
+        ],
         status: 7,
         text: "mptab: fault 15 BadExtLength at 00000551\n",
     },
@@ -370,14 +581,26 @@ const DEFAULTS: &[Row] = &[
     Row {
         name: "default configuration 0 and no address",
         size: SMALL,
-        pieces: &[WORD, (0x500, b"_MP_\x00\x00\x00\x00\x01\x04\xA0\x00\x00\x00\x00\x00")],
+        pieces: &[
+            WORD,
+            (
+                0x500,
+                b"_MP_\x00\x00\x00\x00\x01\x04\xA0\x00\x00\x00\x00\x00",
+            ),
+        ],
         status: 7,
         text: "mptab: fault 3 NoTable at 00000504\n",
     },
     Row {
         name: "default configuration 1 and no address",
         size: SMALL,
-        pieces: &[WORD, (0x500, b"_MP_\x00\x00\x00\x00\x01\x04\x9F\x01\x00\x00\x00\x00")],
+        pieces: &[
+            WORD,
+            (
+                0x500,
+                b"_MP_\x00\x00\x00\x00\x01\x04\x9F\x01\x00\x00\x00\x00",
+            ),
+        ],
         status: 0,
         text: "mptable 1
 pointer at 00000500 table 00000000 revision 04 features 0100000000
@@ -387,7 +610,13 @@ end
     Row {
         name: "default configuration 2 and no address",
         size: SMALL,
-        pieces: &[WORD, (0x500, b"_MP_\x00\x00\x00\x00\x01\x04\x9E\x02\x00\x00\x00\x00")],
+        pieces: &[
+            WORD,
+            (
+                0x500,
+                b"_MP_\x00\x00\x00\x00\x01\x04\x9E\x02\x00\x00\x00\x00",
+            ),
+        ],
         status: 0,
         text: "mptable 1
 pointer at 00000500 table 00000000 revision 04 features 0200000000
@@ -397,7 +626,13 @@ end
     Row {
         name: "default configuration 3 and no address",
         size: SMALL,
-        pieces: &[WORD, (0x500, b"_MP_\x00\x00\x00\x00\x01\x04\x9D\x03\x00\x00\x00\x00")],
+        pieces: &[
+            WORD,
+            (
+                0x500,
+                b"_MP_\x00\x00\x00\x00\x01\x04\x9D\x03\x00\x00\x00\x00",
+            ),
+        ],
         status: 0,
         text: "mptable 1
 pointer at 00000500 table 00000000 revision 04 features 0300000000
@@ -407,7 +642,13 @@ end
     Row {
         name: "default configuration 4 and no address",
         size: SMALL,
-        pieces: &[WORD, (0x500, b"_MP_\x00\x00\x00\x00\x01\x04\x9C\x04\x00\x00\x00\x00")],
+        pieces: &[
+            WORD,
+            (
+                0x500,
+                b"_MP_\x00\x00\x00\x00\x01\x04\x9C\x04\x00\x00\x00\x00",
+            ),
+        ],
         status: 0,
         text: "mptable 1
 pointer at 00000500 table 00000000 revision 04 features 0400000000
@@ -417,7 +658,13 @@ end
     Row {
         name: "default configuration 5 and no address",
         size: SMALL,
-        pieces: &[WORD, (0x500, b"_MP_\x00\x00\x00\x00\x01\x04\x9B\x05\x00\x00\x00\x00")],
+        pieces: &[
+            WORD,
+            (
+                0x500,
+                b"_MP_\x00\x00\x00\x00\x01\x04\x9B\x05\x00\x00\x00\x00",
+            ),
+        ],
         status: 0,
         text: "mptable 1
 pointer at 00000500 table 00000000 revision 04 features 0500000000
@@ -427,7 +674,13 @@ end
     Row {
         name: "default configuration 6 and no address",
         size: SMALL,
-        pieces: &[WORD, (0x500, b"_MP_\x00\x00\x00\x00\x01\x04\x9A\x06\x00\x00\x00\x00")],
+        pieces: &[
+            WORD,
+            (
+                0x500,
+                b"_MP_\x00\x00\x00\x00\x01\x04\x9A\x06\x00\x00\x00\x00",
+            ),
+        ],
         status: 0,
         text: "mptable 1
 pointer at 00000500 table 00000000 revision 04 features 0600000000
@@ -437,7 +690,13 @@ end
     Row {
         name: "default configuration 7 and no address",
         size: SMALL,
-        pieces: &[WORD, (0x500, b"_MP_\x00\x00\x00\x00\x01\x04\x99\x07\x00\x00\x00\x00")],
+        pieces: &[
+            WORD,
+            (
+                0x500,
+                b"_MP_\x00\x00\x00\x00\x01\x04\x99\x07\x00\x00\x00\x00",
+            ),
+        ],
         status: 0,
         text: "mptable 1
 pointer at 00000500 table 00000000 revision 04 features 0700000000
@@ -447,21 +706,39 @@ end
     Row {
         name: "default configuration 8 and no address",
         size: SMALL,
-        pieces: &[WORD, (0x500, b"_MP_\x00\x00\x00\x00\x01\x04\x98\x08\x00\x00\x00\x00")],
+        pieces: &[
+            WORD,
+            (
+                0x500,
+                b"_MP_\x00\x00\x00\x00\x01\x04\x98\x08\x00\x00\x00\x00",
+            ),
+        ],
         status: 7,
         text: "mptab: fault 2 BadDefault at 0000050B\n",
     },
     Row {
         name: "default configuration 128 and no address",
         size: SMALL,
-        pieces: &[WORD, (0x500, b"_MP_\x00\x00\x00\x00\x01\x04\x20\x80\x00\x00\x00\x00")],
+        pieces: &[
+            WORD,
+            (
+                0x500,
+                b"_MP_\x00\x00\x00\x00\x01\x04\x20\x80\x00\x00\x00\x00",
+            ),
+        ],
         status: 7,
         text: "mptab: fault 2 BadDefault at 0000050B\n",
     },
     Row {
         name: "default configuration 255 and no address",
         size: SMALL,
-        pieces: &[WORD, (0x500, b"_MP_\x00\x00\x00\x00\x01\x04\xA1\xFF\x00\x00\x00\x00")],
+        pieces: &[
+            WORD,
+            (
+                0x500,
+                b"_MP_\x00\x00\x00\x00\x01\x04\xA1\xFF\x00\x00\x00\x00",
+            ),
+        ],
         status: 7,
         text: "mptab: fault 2 BadDefault at 0000050B\n",
     },
@@ -472,7 +749,12 @@ fn each_reason(rt: HostRuntime) -> Result<(), Fail> {
     for row in REASONS {
         let answer = row_answer(rt.alloc(), row)?;
         assert_eq!(rt; answer.status, row.status, "the status of {}", row.name);
-        assert_eq!(rt; answer.text.as_slice(), row.text.as_bytes(), "the text of {}", row.name);
+        assert_eq!(rt;
+            answer.text.as_slice(),
+            row.text.as_bytes(),
+            "the text of {}",
+            row.name
+        );
     }
     Ok(())
 }
@@ -482,7 +764,12 @@ fn the_first_of_two_faults(rt: HostRuntime) -> Result<(), Fail> {
     for row in PAIRS {
         let answer = row_answer(rt.alloc(), row)?;
         assert_eq!(rt; answer.status, row.status, "the status of {}", row.name);
-        assert_eq!(rt; answer.text.as_slice(), row.text.as_bytes(), "the text of {}", row.name);
+        assert_eq!(rt;
+            answer.text.as_slice(),
+            row.text.as_bytes(),
+            "the text of {}",
+            row.name
+        );
     }
     Ok(())
 }
@@ -492,7 +779,12 @@ fn default_numbers(rt: HostRuntime) -> Result<(), Fail> {
     for row in DEFAULTS {
         let answer = row_answer(rt.alloc(), row)?;
         assert_eq!(rt; answer.status, row.status, "the status of {}", row.name);
-        assert_eq!(rt; answer.text.as_slice(), row.text.as_bytes(), "the text of {}", row.name);
+        assert_eq!(rt;
+            answer.text.as_slice(),
+            row.text.as_bytes(),
+            "the text of {}",
+            row.name
+        );
     }
     Ok(())
 }

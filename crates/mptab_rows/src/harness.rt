@@ -9,7 +9,7 @@ use std::test::Fail;
 pub(crate) const NAME: &str = "board.img";
 
 /// The room of a sink: more than any text of these rows.
-const ROOM: usize = 65536;
+pub(crate) const ROOM: usize = 65536;
 
 /// Bytes and their place in an image. What passes the image's end is left out.
 pub(crate) type Piece = (usize, &'static [u8]);
@@ -56,11 +56,18 @@ pub(crate) struct Answer {
 pub(crate) fn image_with(alloc: Global, size: usize, pieces: &[Piece]) -> Result<Vec<u8>, Fail> {
     let mut image = vec![in alloc; 0; size]?;
     for (at, bytes) in pieces {
-        for (cell, byte) in image.iter_mut().skip(*at).zip(bytes.iter()) {
+        put(&mut image, *at, bytes);
+    }
+    Ok(image)
+}
+
+/// Writes bytes at a place. What passes the end is left out.
+pub(crate) fn put(image: &mut [u8], at: usize, bytes: &[u8]) {
+    if let Some(rest) = image.get_mut(at..) {
+        for (cell, byte) in rest.iter_mut().zip(bytes.iter()) {
             *cell = *byte;
         }
     }
-    Ok(image)
 }
 
 /// A shelf with this one image, of which the call of this number fails; 0 is none.
@@ -71,6 +78,15 @@ pub(crate) fn shelf_with(alloc: Global, image: &[u8], failing: u64) -> Result<Me
     Ok(shelf)
 }
 
+/// These words, as the top call takes them.
+pub(crate) fn words_of(alloc: Global, words: &[&str]) -> Result<Vec<String>, Fail> {
+    let mut owned = Vec::new(alloc);
+    for word in words {
+        owned.push(String::from_str(alloc, word)?)?;
+    }
+    Ok(owned)
+}
+
 /// The answer to these words. The put of this number fails; 0 is none.
 pub(crate) fn answer_of(
     alloc: Global,
@@ -78,10 +94,7 @@ pub(crate) fn answer_of(
     shelf: &mut MemShelf,
     failing: u64,
 ) -> Result<Answer, Fail> {
-    let mut owned = Vec::new(alloc);
-    for word in words {
-        owned.push(String::from_str(alloc, word)?)?;
-    }
+    let owned = words_of(alloc, words)?;
     let mut sink = MemSink::new(alloc, ROOM)?;
     sink.fail(failing)?;
     let status = run_still(alloc, owned.as_slice(), shelf, &mut sink);
@@ -99,4 +112,13 @@ pub(crate) fn shown(alloc: Global, image: &[u8]) -> Result<Answer, Fail> {
 pub(crate) fn row_answer(alloc: Global, row: &Row) -> Result<Answer, Fail> {
     let image = image_with(alloc, row.size, row.pieces)?;
     shown(alloc, image.as_slice())
+}
+
+/// A text of these parts.
+pub(crate) fn text_of(alloc: Global, parts: &[&str]) -> Result<Vec<u8>, Fail> {
+    let mut text = Vec::new(alloc);
+    for part in parts {
+        text.extend_from_slice(part.as_bytes())?;
+    }
+    Ok(text)
 }

@@ -3,11 +3,13 @@
 #![tactic(auto)]
 
 #[cfg(test)]
-mod harness;
+mod board;
 #[cfg(test)]
 mod failing;
 #[cfg(test)]
 mod faults;
+#[cfg(test)]
+mod harness;
 #[cfg(test)]
 mod sizes;
 #[cfg(test)]

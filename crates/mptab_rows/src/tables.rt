@@ -1,73 +1,15 @@
 //! Tables of every entry: each form shown, each type cut at each of its bytes, and opaque entries of the
 //! least and the greatest length.
 
-use crate::harness::{Answer, SMALL_POINTER, WORD, image_with, shown};
+use crate::board::{HEAD, board_with};
+use crate::harness::{Answer, put, shown, text_of};
 use std::alloc::Global;
 use std::test::Fail;
 
-/// The place of the table.
-const AT: usize = 0x510;
-
-/// The header of the board with one processor; lengths, count and checksums are 0.
-const HEADER: &[u8] = b"PCMP\x00\x00\x04\x00MPTAB   BOARD       \
-\x00\x00\x00\x00\x00\x00\x00\x00\x00\x00\xE0\xFE\x00\x00\x00\x00";
-
-/// What the listing of such a table begins with.
-const HEAD: &str = "mptable 1
-pointer at 00000500 table 00000510 revision 04 features 0000000000
-header revision 04 oem \"MPTAB   \" product \"BOARD       \" oemtable 00000000 oemsize 0000 local FEE00000 reserved 00
-";
-
-/// The checksum of these bytes: their sum and it are 0.
-fn checksum(bytes: &[u8]) -> u8 {
-    let mut sum = 0u8;
-    for byte in bytes {
-        sum = sum.wrapping_add(*byte);
-    }
-    sum.wrapping_neg()
-}
-
-/// The two bytes of a length, the low one first.
-fn length_bytes(length: usize) -> [u8; 2] {
-    [(length % 256) as u8, (length / 256 % 256) as u8]
-}
-
-fn put(image: &mut [u8], at: usize, bytes: &[u8]) {
-    for (cell, byte) in image.iter_mut().skip(at).zip(bytes.iter()) {
-        *cell = *byte;
-    }
-}
-
-/// The bytes of a table with these entries, whose lengths and checksums are right.
-fn table_with(alloc: Global, base: &[u8], count: u8, ext: &[u8]) -> Result<Vec<u8>, Fail> {
-    let mut table = Vec::from_slice(alloc, HEADER)?;
-    table.extend_from_slice(base)?;
-    let base_length = table.len();
-    put(&mut table, 4, &length_bytes(base_length));
-    put(&mut table, 34, &[count]);
-    put(&mut table, 40, &length_bytes(ext.len()));
-    put(&mut table, 42, &[checksum(ext)]);
-    let sum = checksum(table.as_slice());
-    put(&mut table, 7, &[sum]);
-    table.extend_from_slice(ext)?;
-    Ok(table)
-}
-
-/// The answer to an image that ends with a table of these entries.
+/// The answer of `show` to a board of these entries.
 fn answer_with(alloc: Global, base: &[u8], count: u8, ext: &[u8]) -> Result<Answer, Fail> {
-    let table = table_with(alloc, base, count, ext)?;
-    let mut image = image_with(alloc, AT, &[WORD, SMALL_POINTER])?;
-    image.extend_from_slice(table.as_slice())?;
+    let image = board_with(alloc, base, count, ext)?;
     shown(alloc, image.as_slice())
-}
-
-/// A text of these parts.
-fn text_of(alloc: Global, parts: &[&str]) -> Result<Vec<u8>, Fail> {
-    let mut text = Vec::new(alloc);
-    for part in parts {
-        text.extend_from_slice(part.as_bytes())?;
-    }
-    Ok(text)
 }
 
 /// An entry of each base type, with its line.
@@ -143,17 +85,31 @@ fn every_cut(rt: HostRuntime) -> Result<(), Fail> {
         for kept in 1..entry.len() {
             let answer = answer_with(rt.alloc(), entry.get(..kept).unwrap_or(entry), 1, &[])?;
             assert_eq!(rt; answer.status, 7, "{kept} bytes of {entry:?}");
-            assert_eq!(rt; answer.text.as_slice(), b"mptab: fault 11 CutEntry at 0000053C\n".as_slice());
+            assert_eq!(rt;
+                answer.text.as_slice(),
+                b"mptab: fault 11 CutEntry at 0000053C\n".as_slice()
+            );
         }
-        assert_eq!(rt; answer_with(rt.alloc(), entry, 1, &[])?.status, 0, "{entry:?}");
+        assert_eq!(rt;
+            answer_with(rt.alloc(), entry, 1, &[])?.status,
+            0,
+            "{entry:?}"
+        );
     }
     for (entry, _) in EXT {
         for kept in 1..entry.len() {
             let answer = answer_with(rt.alloc(), &[], 0, entry.get(..kept).unwrap_or(entry))?;
             assert_eq!(rt; answer.status, 7, "{kept} bytes of {entry:?}");
-            assert_eq!(rt; answer.text.as_slice(), b"mptab: fault 16 CutExtEntry at 0000053C\n".as_slice());
+            assert_eq!(rt;
+                answer.text.as_slice(),
+                b"mptab: fault 16 CutExtEntry at 0000053C\n".as_slice()
+            );
         }
-        assert_eq!(rt; answer_with(rt.alloc(), &[], 0, entry)?.status, 0, "{entry:?}");
+        assert_eq!(rt;
+            answer_with(rt.alloc(), &[], 0, entry)?.status,
+            0,
+            "{entry:?}"
+        );
     }
     Ok(())
 }
@@ -196,7 +152,10 @@ fn wrong_lengths(rt: HostRuntime) -> Result<(), Fail> {
     for (kind, length) in LENGTHS {
         let answer = answer_with(rt.alloc(), &[], 0, &[kind, length])?;
         assert_eq!(rt; answer.status, 7, "length {length} of type {kind}");
-        assert_eq!(rt; answer.text.as_slice(), b"mptab: fault 15 BadExtLength at 0000053D\n".as_slice());
+        assert_eq!(rt;
+            answer.text.as_slice(),
+            b"mptab: fault 15 BadExtLength at 0000053D\n".as_slice()
+        );
     }
     Ok(())
 }

@@ -25,7 +25,14 @@ end
     Row {
         name: "the same board in an image of 1,360 bytes, named by the EBDA word",
         size: 1360,
-        pieces: &[(0x40E, b"\x50\x00"), (0x500, b"_MP_\x10\x05\x00\x00\x01\x04\x8B\x00\x00\x00\x00\x00"), (0x510, TABLE)],
+        pieces: &[
+            (0x40E, b"\x50\x00"),
+            (
+                0x500,
+                b"_MP_\x10\x05\x00\x00\x01\x04\x8B\x00\x00\x00\x00\x00",
+            ),
+            (0x510, TABLE),
+        ],
         status: 0,
         text: "mptable 1
 pointer at 00000500 table 00000510 revision 04 features 0000000000
@@ -44,7 +51,15 @@ end
     Row {
         name: "the pointer that the EBDA word names is taken before that in the last area",
         size: MIB,
-        pieces: &[POINTER, AT, (0x40E, b"\xC0\x9F"), (0x9FC00, b"_MP_\x00\x00\x00\x00\x01\x04\x9B\x05\x00\x00\x00\x00")],
+        pieces: &[
+            POINTER,
+            AT,
+            (0x40E, b"\xC0\x9F"),
+            (
+                0x9FC00,
+                b"_MP_\x00\x00\x00\x00\x01\x04\x9B\x05\x00\x00\x00\x00",
+            ),
+        ],
         status: 0,
         text: "mptable 1
 pointer at 0009FC00 table 00000000 revision 04 features 0500000000
@@ -54,7 +69,17 @@ end
     Row {
         name: "a pointer whose sum is wrong is passed over",
         size: MIB,
-        pieces: &[(0xF0000, b"_MP_\x10\x00\x0F\x00\x01\x04\x80\x00\x00\x00\x00\x00"), (0xF0100, b"_MP_\x00\x02\x0F\x00\x01\x04\x8F\x00\x00\x00\x00\x00"), (0xF0200, TABLE)],
+        pieces: &[
+            (
+                0xF0000,
+                b"_MP_\x10\x00\x0F\x00\x01\x04\x80\x00\x00\x00\x00\x00",
+            ),
+            (
+                0xF0100,
+                b"_MP_\x00\x02\x0F\x00\x01\x04\x8F\x00\x00\x00\x00\x00",
+            ),
+            (0xF0200, TABLE),
+        ],
         status: 0,
         text: "mptable 1
 pointer at 000F0100 table 000F0200 revision 04 features 0000000000
@@ -66,14 +91,20 @@ end
     Row {
         name: "default configuration 8",
         size: MIB,
-        pieces: &[(0xF0000, b"_MP_\x00\x00\x00\x00\x01\x04\x98\x08\x00\x00\x00\x00")],
+        pieces: &[(
+            0xF0000,
+            b"_MP_\x00\x00\x00\x00\x01\x04\x98\x08\x00\x00\x00\x00",
+        )],
         status: 7,
         text: "mptab: fault 2 BadDefault at 000F000B\n",
     },
     Row {
         name: "no default configuration and no address",
         size: MIB,
-        pieces: &[(0xF0000, b"_MP_\x00\x00\x00\x00\x01\x04\xA0\x00\x00\x00\x00\x00")],
+        pieces: &[(
+            0xF0000,
+            b"_MP_\x00\x00\x00\x00\x01\x04\xA0\x00\x00\x00\x00\x00",
+        )],
         status: 7,
         text: "mptab: fault 3 NoTable at 000F0004\n",
     },
@@ -115,14 +146,26 @@ end
     Row {
         name: "extended entry type 7Fh",
         size: MIB,
-        pieces: &[POINTER, AT, (0xF0038, b"\x02\x00\x7F"), (0xF0017, b"\x18"), (0xF0050, b"\x7F\x02")],
+        pieces: &[
+            POINTER,
+            AT,
+            (0xF0038, b"\x02\x00\x7F"),
+            (0xF0017, b"\x18"),
+            (0xF0050, b"\x7F\x02"),
+        ],
         status: 7,
         text: "mptab: fault 14 BadExtType at 000F0050\n",
     },
     Row {
         name: "an opaque entry without further bytes",
         size: MIB,
-        pieces: &[POINTER, AT, (0xF0038, b"\x02\x00\x36"), (0xF0017, b"\x61"), (0xF0050, b"\xC8\x02")],
+        pieces: &[
+            POINTER,
+            AT,
+            (0xF0038, b"\x02\x00\x36"),
+            (0xF0017, b"\x61"),
+            (0xF0050, b"\xC8\x02"),
+        ],
         status: 0,
         text: "mptable 1
 pointer at 000F0000 table 000F0010 revision 04 features 0000000000
@@ -135,7 +178,13 @@ end
     Row {
         name: "one byte of an extended entry",
         size: MIB,
-        pieces: &[POINTER, AT, (0xF0038, b"\x01\x00\x38"), (0xF0017, b"\x60"), (0xF0050, b"\xC8")],
+        pieces: &[
+            POINTER,
+            AT,
+            (0xF0038, b"\x01\x00\x38"),
+            (0xF0017, b"\x60"),
+            (0xF0050, b"\xC8"),
+        ],
         status: 7,
         text: "mptab: fault 16 CutExtEntry at 000F0050\n",
     },
@@ -178,7 +227,10 @@ const HOSTILE: &[Row] = &[
     Row {
         name: "a pointer at the last place",
         size: MIB,
-        pieces: &[(0xFFFF0, b"_MP_\x00\x00\x00\x00\x01\x04\x9B\x05\x00\x00\x00\x00")],
+        pieces: &[(
+            0xFFFF0,
+            b"_MP_\x00\x00\x00\x00\x01\x04\x9B\x05\x00\x00\x00\x00",
+        )],
         status: 0,
         text: "mptable 1
 pointer at 000FFFF0 table 00000000 revision 04 features 0500000000
@@ -188,14 +240,23 @@ end
     Row {
         name: "the image cuts a pointer at the last place",
         size: 0xFFFF8,
-        pieces: &[(0xFFFF0, b"_MP_\x00\x00\x00\x00\x01\x04\x9B\x05\x00\x00\x00\x00")],
+        pieces: &[(
+            0xFFFF0,
+            b"_MP_\x00\x00\x00\x00\x01\x04\x9B\x05\x00\x00\x00\x00",
+        )],
         status: 6,
         text: "mptab: no floating pointer\n",
     },
     Row {
         name: "the greatest EBDA word: its area is cut at the image",
         size: MIB,
-        pieces: &[(0xFFFF0, b"_MP_\x00\x00\x00\x00\x01\x04\x9B\x05\x00\x00\x00\x00"), (0x40E, b"\xFF\xFF")],
+        pieces: &[
+            (
+                0xFFFF0,
+                b"_MP_\x00\x00\x00\x00\x01\x04\x9B\x05\x00\x00\x00\x00",
+            ),
+            (0x40E, b"\xFF\xFF"),
+        ],
         status: 0,
         text: "mptable 1
 pointer at 000FFFF0 table 00000000 revision 04 features 0500000000
@@ -205,7 +266,13 @@ end
     Row {
         name: "the last place below 640 KiB",
         size: MIB,
-        pieces: &[(0x9FFF0, b"_MP_\x00\x00\x00\x00\x01\x04\x9B\x05\x00\x00\x00\x00"), (0x413, b"\x80\x02")],
+        pieces: &[
+            (
+                0x9FFF0,
+                b"_MP_\x00\x00\x00\x00\x01\x04\x9B\x05\x00\x00\x00\x00",
+            ),
+            (0x413, b"\x80\x02"),
+        ],
         status: 0,
         text: "mptable 1
 pointer at 0009FFF0 table 00000000 revision 04 features 0500000000
@@ -215,14 +282,23 @@ end
     Row {
         name: "641 KiB: the kilobyte above",
         size: MIB,
-        pieces: &[(0x9FFF0, b"_MP_\x00\x00\x00\x00\x01\x04\x9B\x05\x00\x00\x00\x00"), (0x413, b"\x81\x02")],
+        pieces: &[
+            (
+                0x9FFF0,
+                b"_MP_\x00\x00\x00\x00\x01\x04\x9B\x05\x00\x00\x00\x00",
+            ),
+            (0x413, b"\x81\x02"),
+        ],
         status: 6,
         text: "mptab: no floating pointer\n",
     },
     Row {
         name: "the greatest address",
         size: MIB,
-        pieces: &[(0xF0000, b"_MP_\xFF\xFF\xFF\xFF\x01\x04\xA4\x00\x00\x00\x00\x00")],
+        pieces: &[(
+            0xF0000,
+            b"_MP_\xFF\xFF\xFF\xFF\x01\x04\xA4\x00\x00\x00\x00\x00",
+        )],
         status: 7,
         text: "mptab: fault 4 TableOutside at 000F0004\n",
     },
@@ -254,7 +330,12 @@ fn worked_rows(rt: HostRuntime) -> Result<(), Fail> {
     for row in WORKED {
         let answer = row_answer(rt.alloc(), row)?;
         assert_eq!(rt; answer.status, row.status, "the status of {}", row.name);
-        assert_eq!(rt; answer.text.as_slice(), row.text.as_bytes(), "the text of {}", row.name);
+        assert_eq!(rt;
+            answer.text.as_slice(),
+            row.text.as_bytes(),
+            "the text of {}",
+            row.name
+        );
     }
     Ok(())
 }
@@ -264,7 +345,12 @@ fn hostile_images(rt: HostRuntime) -> Result<(), Fail> {
     for row in HOSTILE {
         let answer = row_answer(rt.alloc(), row)?;
         assert_eq!(rt; answer.status, row.status, "the status of {}", row.name);
-        assert_eq!(rt; answer.text.as_slice(), row.text.as_bytes(), "the text of {}", row.name);
+        assert_eq!(rt;
+            answer.text.as_slice(),
+            row.text.as_bytes(),
+            "the text of {}",
+            row.name
+        );
     }
     Ok(())
 }
