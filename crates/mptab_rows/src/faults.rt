@@ -1,6 +1,6 @@
 //! The sixteen faults, one image for each and more, and which of two faults is named.
 
-use crate::harness::{Piece, Row, SMALL_POINTER as POINTER, TABLE, WORD, row_answer};
+use crate::harness::{Piece, Row, SMALL_POINTER as POINTER, TABLE, WORD, first_wrong};
 use std::test::Fail;
 
 /// The length of most images: the table ends there.
@@ -746,45 +746,18 @@ end
 
 #[test]
 fn each_reason(rt: HostRuntime) -> Result<(), Fail> {
-    for row in REASONS {
-        let answer = row_answer(rt.alloc(), row)?;
-        assert_eq!(rt; answer.status, row.status, "the status of {}", row.name);
-        assert_eq!(rt;
-            answer.text.as_slice(),
-            row.text.as_bytes(),
-            "the text of {}",
-            row.name
-        );
-    }
+    assert_eq!(rt; first_wrong(rt.alloc(), REASONS)?, None);
     Ok(())
 }
 
 #[test]
 fn the_first_of_two_faults(rt: HostRuntime) -> Result<(), Fail> {
-    for row in PAIRS {
-        let answer = row_answer(rt.alloc(), row)?;
-        assert_eq!(rt; answer.status, row.status, "the status of {}", row.name);
-        assert_eq!(rt;
-            answer.text.as_slice(),
-            row.text.as_bytes(),
-            "the text of {}",
-            row.name
-        );
-    }
+    assert_eq!(rt; first_wrong(rt.alloc(), PAIRS)?, None);
     Ok(())
 }
 
 #[test]
 fn default_numbers(rt: HostRuntime) -> Result<(), Fail> {
-    for row in DEFAULTS {
-        let answer = row_answer(rt.alloc(), row)?;
-        assert_eq!(rt; answer.status, row.status, "the status of {}", row.name);
-        assert_eq!(rt;
-            answer.text.as_slice(),
-            row.text.as_bytes(),
-            "the text of {}",
-            row.name
-        );
-    }
+    assert_eq!(rt; first_wrong(rt.alloc(), DEFAULTS)?, None);
     Ok(())
 }

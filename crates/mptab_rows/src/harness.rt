@@ -52,6 +52,13 @@ pub(crate) struct Answer {
     pub(crate) text: Vec<u8>,
 }
 
+impl Answer {
+    /// Whether it is this status with this text.
+    pub(crate) fn is(&self, status: u8, text: &[u8]) -> bool {
+        self.status == status && self.text.as_slice() == text
+    }
+}
+
 /// The image of these pieces.
 pub(crate) fn image_with(alloc: Global, size: usize, pieces: &[Piece]) -> Result<Vec<u8>, Fail> {
     let mut image = vec![in alloc; 0; size]?;
@@ -108,17 +115,19 @@ pub(crate) fn shown(alloc: Global, image: &[u8]) -> Result<Answer, Fail> {
     answer_of(alloc, &["show", NAME], &mut shelf, 0)
 }
 
-/// The answer of `show` to the image of a row.
-pub(crate) fn row_answer(alloc: Global, row: &Row) -> Result<Answer, Fail> {
+/// Whether `show` answers as the row says.
+fn is_answered(alloc: Global, row: &Row) -> Result<bool, Fail> {
     let image = image_with(alloc, row.size, row.pieces)?;
-    shown(alloc, image.as_slice())
+    let answer = shown(alloc, image.as_slice())?;
+    Ok(answer.is(row.status, row.text.as_bytes()))
 }
 
-/// A text of these parts.
-pub(crate) fn text_of(alloc: Global, parts: &[&str]) -> Result<Vec<u8>, Fail> {
-    let mut text = Vec::new(alloc);
-    for part in parts {
-        text.extend_from_slice(part.as_bytes())?;
+/// The name of the first row that has another answer.
+pub(crate) fn first_wrong(alloc: Global, rows: &[Row]) -> Result<Option<&'static str>, Fail> {
+    for row in rows {
+        if !is_answered(alloc, row)? {
+            return Ok(Some(row.name));
+        }
     }
-    Ok(text)
+    Ok(None)
 }

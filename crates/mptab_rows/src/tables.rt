@@ -2,7 +2,7 @@
 //! least and the greatest length.
 
 use crate::board::{HEAD, board_with};
-use crate::harness::{Answer, put, shown, text_of};
+use crate::harness::{Answer, shown};
 use std::alloc::Global;
 use std::test::Fail;
 
@@ -13,7 +13,7 @@ fn answer_with(alloc: Global, base: &[u8], count: u8, ext: &[u8]) -> Result<Answ
 }
 
 /// An entry of each base type, with its line.
-const BASE: [(&[u8], &str); 7] = [
+const BASE: &[(&[u8], &str)] = &[
     (
         b"\x04\x03\x0D\x1F\x02\x4C\xFF\x17",
         "localint kind 03 flags 1F0D bus 02 irq 4C dest FF pin 17\n",
@@ -42,7 +42,7 @@ const BASE: [(&[u8], &str); 7] = [
 ];
 
 /// An entry of each extended form, with its line.
-const EXT: [(&[u8], &str); 5] = [
+const EXT: &[(&[u8], &str)] = &[
     (b"\x83\x02", "opaque kind 83 rest -\n"),
     (
         b"\x80\x14\x01\x02\x10\x32\x54\x76\x98\xBA\xDC\xFE\x00\x10\x00\x00\x00\x00\x00\x80",
@@ -59,19 +59,24 @@ const EXT: [(&[u8], &str); 5] = [
     (b"\xFF\x05\x0F\xA0\x22", "opaque kind FF rest 0FA022\n"),
 ];
 
+/// The bytes of these entries, end to end, with their lines.
+fn joined(alloc: Global, entries: &[(&[u8], &str)]) -> Result<(Vec<u8>, Vec<u8>), Fail> {
+    let mut bytes = Vec::new(alloc);
+    let mut text = Vec::new(alloc);
+    for (entry, line) in entries {
+        bytes.extend_from_slice(entry)?;
+        text.extend_from_slice(line.as_bytes())?;
+    }
+    Ok((bytes, text))
+}
+
 #[test]
 fn every_form(rt: HostRuntime) -> Result<(), Fail> {
-    let mut base = Vec::new(rt.alloc());
-    let mut ext = Vec::new(rt.alloc());
-    let mut text = text_of(rt.alloc(), &[HEAD])?;
-    for (bytes, line) in BASE {
-        base.extend_from_slice(bytes)?;
-        text.extend_from_slice(line.as_bytes())?;
-    }
-    for (bytes, line) in EXT {
-        ext.extend_from_slice(bytes)?;
-        text.extend_from_slice(line.as_bytes())?;
-    }
+    let (base, base_lines) = joined(rt.alloc(), BASE)?;
+    let (ext, ext_lines) = joined(rt.alloc(), EXT)?;
+    let mut text = Vec::from_slice(rt.alloc(), HEAD.as_bytes())?;
+    text.extend_from_slice(base_lines.as_slice())?;
+    text.extend_from_slice(ext_lines.as_slice())?;
     text.extend_from_slice(b"end\n")?;
     let answer = answer_with(rt.alloc(), base.as_slice(), 7, ext.as_slice())?;
     assert_eq!(rt; answer.status, 0);
@@ -79,47 +84,54 @@ fn every_form(rt: HostRuntime) -> Result<(), Fail> {
     Ok(())
 }
 
+/// The first entry of which some part is another answer than a cut entry, or which isn't accepted whole.
+fn first_uncut_base(alloc: Global) -> Result<Option<&'static str>, Fail> {
+    for (entry, line) in BASE {
+        for kept in 1..entry.len() {
+            let (part, _) = entry.split_at(kept);
+            let answer = answer_with(alloc, part, 1, &[])?;
+            if !answer.is(7, b"mptab: fault 11 CutEntry at 0000053C\n") {
+                return Ok(Some(line));
+            }
+        }
+        if answer_with(alloc, entry, 1, &[])?.status != 0 {
+            return Ok(Some(line));
+        }
+    }
+    Ok(None)
+}
+
+/// The same of extended entries.
+fn first_uncut_ext(alloc: Global) -> Result<Option<&'static str>, Fail> {
+    for (entry, line) in EXT {
+        for kept in 1..entry.len() {
+            let (part, _) = entry.split_at(kept);
+            let answer = answer_with(alloc, &[], 0, part)?;
+            if !answer.is(7, b"mptab: fault 16 CutExtEntry at 0000053C\n") {
+                return Ok(Some(line));
+            }
+        }
+        if answer_with(alloc, &[], 0, entry)?.status != 0 {
+            return Ok(Some(line));
+        }
+    }
+    Ok(None)
+}
+
 #[test]
 fn every_cut(rt: HostRuntime) -> Result<(), Fail> {
-    for (entry, _) in BASE {
-        for kept in 1..entry.len() {
-            let answer = answer_with(rt.alloc(), entry.get(..kept).unwrap_or(entry), 1, &[])?;
-            assert_eq!(rt; answer.status, 7, "{kept} bytes of {entry:?}");
-            assert_eq!(rt;
-                answer.text.as_slice(),
-                b"mptab: fault 11 CutEntry at 0000053C\n".as_slice()
-            );
-        }
-        assert_eq!(rt;
-            answer_with(rt.alloc(), entry, 1, &[])?.status,
-            0,
-            "{entry:?}"
-        );
-    }
-    for (entry, _) in EXT {
-        for kept in 1..entry.len() {
-            let answer = answer_with(rt.alloc(), &[], 0, entry.get(..kept).unwrap_or(entry))?;
-            assert_eq!(rt; answer.status, 7, "{kept} bytes of {entry:?}");
-            assert_eq!(rt;
-                answer.text.as_slice(),
-                b"mptab: fault 16 CutExtEntry at 0000053C\n".as_slice()
-            );
-        }
-        assert_eq!(rt;
-            answer_with(rt.alloc(), &[], 0, entry)?.status,
-            0,
-            "{entry:?}"
-        );
-    }
+    assert_eq!(rt; first_uncut_base(rt.alloc())?, None);
+    assert_eq!(rt; first_uncut_ext(rt.alloc())?, None);
     Ok(())
 }
 
 #[test]
 fn greatest_opaque_entry(rt: HostRuntime) -> Result<(), Fail> {
-    let mut entry = vec![in rt.alloc(); 0x5A; 255]?;
-    put(&mut entry, 0, b"\x84\xFF");
-    let mut text = text_of(rt.alloc(), &[HEAD, "opaque kind 84 rest "])?;
+    let mut entry = Vec::from_slice(rt.alloc(), b"\x84\xFF")?;
+    let mut text = Vec::from_slice(rt.alloc(), HEAD.as_bytes())?;
+    text.extend_from_slice(b"opaque kind 84 rest ")?;
     for _ in 0..253 {
+        entry.push(0x5A)?;
         text.extend_from_slice(b"5A")?;
     }
     text.extend_from_slice(b"\nend\n")?;
@@ -129,13 +141,13 @@ fn greatest_opaque_entry(rt: HostRuntime) -> Result<(), Fail> {
     Ok(())
 }
 
-/// Lengths that are wrong for their type: type, length.
-const LENGTHS: [(u8, u8); 14] = [
+/// Types and lengths that don't go together.
+const LENGTHS: &[(u8, u8)] = &[
     (0x80, 0),
     (0x80, 1),
+    (0x80, 8),
     (0x80, 19),
     (0x80, 21),
-    (0x80, 8),
     (0x81, 7),
     (0x81, 9),
     (0x81, 20),
@@ -150,12 +162,9 @@ const LENGTHS: [(u8, u8); 14] = [
 #[test]
 fn wrong_lengths(rt: HostRuntime) -> Result<(), Fail> {
     for (kind, length) in LENGTHS {
-        let answer = answer_with(rt.alloc(), &[], 0, &[kind, length])?;
-        assert_eq!(rt; answer.status, 7, "length {length} of type {kind}");
-        assert_eq!(rt;
-            answer.text.as_slice(),
-            b"mptab: fault 15 BadExtLength at 0000053D\n".as_slice()
-        );
+        let answer = answer_with(rt.alloc(), &[], 0, &[*kind, *length])?;
+        let text = b"mptab: fault 15 BadExtLength at 0000053D\n";
+        assert!(rt; answer.is(7, text), "length {length} of type {kind}");
     }
     Ok(())
 }
