@@ -6,10 +6,10 @@ ghost use Rattle.mpt_spec.specs.declared.entry.Base.{Base};
 ghost use Rattle.mpt_spec.specs.Entries.{IsProcessorAt, IsBusAt, IsIoApicAt, IsInterruptAt, IsBaseEntryAt, AreBaseEntries, IsBaseFaultIn, base_length};
 ghost use Rattle.mpt_entries.specs.Answers.{IfFault, AnswersEntries, AnswersFault};
 
-use crate::fields::{bytes_at, read_field, read_fields};
+use crate::fields::{read_field, read_fields};
 use crate::layouts::{bus_layout, interrupt_layout, io_apic_layout, processor_layout};
 use crate::stop::{Stop, fault_at};
-use mpt_base::{Fault, Reason, u16_at, u32_at};
+use mpt_base::{Fault, Reason, bytes_at, u16_at, u32_at};
 use mpt_spec::{Base, Bus, IntEntry, IoApic, Processor};
 use std::alloc::Global;
 

@@ -6,10 +6,10 @@ ghost use Rattle.mpt_spec.specs.declared.entry.Ext.{Ext};
 ghost use Rattle.mpt_spec.specs.Extended.{IsSpaceAt, IsHierarchyAt, IsModifierAt, IsOpaqueAt, IsExtEntryAt, AreExtEntries, IsExtFaultIn, IsLengthOfExtType, ext_length};
 ghost use Rattle.mpt_entries.specs.Answers.{IfFault, AnswersEntries, AnswersFault};
 
-use crate::fields::{bytes_at, read_field, read_fields};
+use crate::fields::{read_field, read_fields};
 use crate::layouts::{hierarchy_layout, modifier_layout, space_layout};
 use crate::stop::{Stop, fault_at};
-use mpt_base::{Fault, Reason, u32_at, u64_at};
+use mpt_base::{Fault, Reason, bytes_at, u32_at, u64_at};
 use mpt_spec::{Ext, Hierarchy, Modifier, Opaque, Sequence, Space};
 use std::alloc::{AllocError, Global};
 

@@ -1,19 +1,5 @@
 //! The reading of a layout: a field of each kind at its offset.
 
-ghost use Rattle.std.specs.Prelude.{◌≡◌, ◌+◌, ◌≤◌, length};
-ghost use Rattle.mpt_base.specs.Bytes.{part};
-
-/// The `N` bytes from `at` on.
-pub(crate) fn bytes_at<const N: usize>(bytes: &[u8], at: usize) -> [u8; N]
-    requires { at + N ≤ length bytes.now }
-    ensures { result ≡ part bytes.now at N }
-{
-    match bytes[at..].first_chunk::<N>() {
-        Some(chunk) => *chunk,
-        None => unreachable!(),
-    }
-}
-
 // the value whose fields a layout lists, read from `$bytes` at the place `$at`
 macro_rules! read_fields {
     ($bytes:ident, $at:ident, $entry:ident { $($field:ident: $kind:ident $offset:literal,)* }) => {

@@ -6,6 +6,7 @@ mod base;
 mod extended;
 mod fields;
 mod layouts;
+mod pci;
 mod stop;
 #[cfg(test)]
 mod tests;
@@ -13,6 +14,8 @@ mod tests;
 pub use base::read_base;
 pub use extended::read_ext;
 pub use mpt_spec::{
-    Base, Bus, Ext, Hierarchy, IntEntry, IoApic, Modifier, Opaque, Processor, Space,
+    Base, Bus, Ext, Hierarchy, IntEntry, IoApic, Kind, Modifier, Opaque, Polarity, Processor,
+    Space, Trigger,
 };
+pub use pci::{pci_device, pci_pin};
 pub use stop::Stop;

@@ -48,16 +48,16 @@ first_of_multiples P low zero k above below none holds = absurd (omega arith)
 first_of_multiples P low (suc n) k above below none holds =
     elim (cases_lt low k) [
       | inl later ↦ IsFirst-behind P (16 * low ∷ []) (multiples (low + 1) n) (16 * k) (none low (omega arith) later, tt)
-        (first_of_multiples P (low + 1) n k (omega arith) (omega arith) (λ j after before. none j (omega arith) before) holds)
+          (first_of_multiples P (low + 1) n k (omega arith) (omega arith) (λ j after before. none j (omega arith) before) holds)
       | inr le ↦
-        let here : k ≡ low = omega arith in
-        record {
-          before = [];
-          after = multiples (low + 1) n;
-          split = rw here refl;
-          none_before = tt;
-          holds = holds;
-        }
+          let here : k ≡ low = omega arith in
+          record {
+            before = [];
+            after = multiples (low + 1) n;
+            split = rw here refl;
+            none_before = tt;
+            holds = holds;
+          }
     ]
 
 -- the first of the rest is the first of the whole, and where the rest has none the whole has none

@@ -340,10 +340,10 @@ FitsInImage-canonical_of tables = (
 zeros : (n : ℕ) → AreBytes (replicate n 0) n
 zeros n = record { size = length-replicate n 0; below = λ i. zero_at n i }
   where
-  zero_at : (n i : ℕ) → slice_index (replicate n 0) i < 256
-  zero_at zero i = omega arith
-  zero_at (suc n) zero = omega arith
-  zero_at (suc n) (suc i) = zero_at n i
+    zero_at : (n i : ℕ) → slice_index (replicate n 0) i < 256
+    zero_at zero i = omega arith
+    zero_at (suc n) zero = omega arith
+    zero_at (suc n) (suc i) = zero_at n i
 
 canonical_base-value : (e : Base) → IsBaseValue e → IsBaseValue (canonical_base e)
 canonical_base-value (base.Processor e) v = record { apic = v.apic; version = v.version; flags = omega arith; signature = v.signature; features = v.features; reserved = zeros 8 }
@@ -379,10 +379,10 @@ canonical_body-value (body.Listed t) v = record {
 features-value : (fs : List ℕ) → IsByteList fs → AreBytes (slice_index fs 0 ∷ 64 * (slice_index fs 1 / 64) ∷ 0 ∷ 0 ∷ 0 ∷ []) 5
 features-value fs b = record { size = refl; below = λ i. byte i }
   where
-  byte : (i : ℕ) → slice_index (slice_index fs 0 ∷ 64 * (slice_index fs 1 / 64) ∷ 0 ∷ 0 ∷ 0 ∷ []) i < 256
-  byte zero = b 0
-  byte (suc zero) = omega (arith, b 1)
-  byte (suc (suc i)) = (zeros 3).below i
+    byte : (i : ℕ) → slice_index (slice_index fs 0 ∷ 64 * (slice_index fs 1 / 64) ∷ 0 ∷ 0 ∷ 0 ∷ []) i < 256
+    byte zero = b 0
+    byte (suc zero) = omega (arith, b 1)
+    byte (suc (suc i)) = (zeros 3).below i
 
 pub IsTablesValue-canonical_of : (tables : Tables) → IsTablesValue tables → IsTablesValue (canonical_of tables)
 IsTablesValue-canonical_of tables v = record {

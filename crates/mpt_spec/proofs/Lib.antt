@@ -14,3 +14,5 @@ pub mod CanonicalLemmas
 pub mod WellFormedLemmas
 pub mod SpellingLemmas
 pub mod ValueLemmas
+pub mod EntryJudgment
+pub mod Judgment

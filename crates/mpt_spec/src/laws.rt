@@ -1,7 +1,7 @@
 //! Laws of the definitions, in the words of MultiProcessor Specification 1.4, chapter 4. A law is the
 //! contract of a function that does nothing: it holds of every area, image and table.
 
-ghost use Rattle.std.specs.Prelude.{◌≡◌, ◌+◌, ◌≤◌, ◌<◌, ◌^◌, ◌↔◌, ℕ, List, ◌++◌, length};
+ghost use Rattle.std.specs.Prelude.{◌≡◌, ◌+◌, ◌≤◌, ◌<◌, ◌^◌, ◌↔◌, ◌⊎◌, ℕ, List, ◌++◌, length};
 ghost use Rattle.std.specs.List.{Contains};
 ghost use Rattle.mpt_base.specs.Bytes.{part};
 ghost use Rattle.mpt_base.specs.declared.fault.Reason.{Reason};
@@ -20,7 +20,7 @@ ghost use Rattle.mpt_spec.specs.Table.{IsConfigurationTable, Describes};
 ghost use Rattle.mpt_spec.specs.Faults.{HasFaultAt, IsFirstFault};
 ghost use Rattle.mpt_spec.specs.Image.{base_bytes, ext_bytes, table_bytes, pointer_bytes, image_of};
 ghost use Rattle.mpt_spec.specs.Values.{IsByteList, IsBaseValue, IsExtValue, IsPointerValue, IsTableValue, IsTablesValue};
-ghost use Rattle.mpt_spec.specs.Laws.{IsPlaceOf};
+ghost use Rattle.mpt_spec.specs.Laws.{IsPlaceOf, IsDescribed, HasFirstFault};
 
 /// The places of an area are the multiples of 16 in it that have 16 bytes before its end.
 pub fn places_of_an_area()
@@ -80,6 +80,11 @@ pub fn tables_of_image_are_one()
 /// An image has at most one first fault.
 pub fn first_fault_is_one()
     ensures { (image : List ℕ) (k j : ℕ) (why other : Reason) → IsFirstFault image k why → IsFirstFault image j other → (k ≡ j) × (why ≡ other) }
+{}
+
+/// Every image has no floating pointer at a place of the search, describes tables, or has a first fault.
+pub fn image_is_described_or_refused()
+    ensures { (image : List ℕ) → HasNoPointer image ⊎ (IsDescribed image ⊎ HasFirstFault image) }
 {}
 
 /// The first fault of an image lies in it.

@@ -4,12 +4,14 @@
 
 mod entry;
 pub mod examples;
+mod interrupt;
 pub mod laws;
 mod pointer;
 mod sequence;
 mod tables;
 
 pub use entry::{Base, Bus, Ext, Hierarchy, IntEntry, IoApic, Modifier, Opaque, Processor, Space};
+pub use interrupt::{Kind, Polarity, Trigger};
 pub use pointer::{Area, Pointer};
 pub use sequence::Sequence;
 pub use tables::{Body, Table, Tables};

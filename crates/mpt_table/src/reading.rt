@@ -29,11 +29,7 @@ use std::alloc::Global;
 
 // The base entries, as many as the count says, or their own fault, which later rows may be before. A
 // wrong count is the first fault.
-fn counted_base(
-    alloc: Global,
-    image: &[u8],
-    at: usize,
-) -> Result<Result<Vec<Base>, Fault>, Stop>
+fn counted_base(alloc: Global, image: &[u8], at: usize) -> Result<Result<Vec<Base>, Fault>, Stop>
     requires header { at + 44 ≤ length image.now }
     requires right { HasRightHeader image.now at }
     ensures count { OnOk result (HasRightCount image.now at) }

@@ -17,12 +17,7 @@ use std::alloc::Global;
 const IMAGE_LIMIT: u64 = 16_777_216;
 
 /// Shows the image of this name, and answers the status.
-pub(crate) fn show<S: Shelf, O: Sink>(
-    alloc: Global,
-    name: &str,
-    shelf: &mut S,
-    out: &mut O,
-) -> u8
+pub(crate) fn show<S: Shelf, O: Sink>(alloc: Global, name: &str, shelf: &mut S, out: &mut O) -> u8
     ensures due { (status : ℕ) × (text : List ℕ) × IsShowDue name.now (S.files shelf.old) status text
         × IsDelivered result status text (O.written out.old) (O.written out.new) }
     ensures missing { result ≡ 3 → Rose (S.misses shelf.old) (S.misses shelf.new) }
@@ -62,6 +57,11 @@ fn refuse_size<O: Sink>(name: &str, size: u64, out: &mut O) -> u8
     deliver_line(
         out,
         TOO_LARGE,
-        &[b"mptab: too large ", name.as_bytes(), b" ", digits.as_bytes()],
+        &[
+            b"mptab: too large ",
+            name.as_bytes(),
+            b" ",
+            digits.as_bytes(),
+        ],
     )
 }

@@ -13,4 +13,4 @@ loop-area-preserved c =
     let i = c.loop-area.area-index in
     let none : Area = record { from = 0; to = 0 } in
     KeepsFirst-behind P (places_in (get_or areas i none)) (flat_map places_in (drop (i + 1) areas)) (flat_map places_in areas) c.in_default.ensures.none
-      (rw (drop_more areas i none c.loop-area-test.true) at c.loop-area.invariant)
+    (rw (drop_more areas i none c.loop-area-test.true) at c.loop-area.invariant)

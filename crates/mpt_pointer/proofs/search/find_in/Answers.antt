@@ -10,16 +10,16 @@ returns-then-has_pointer_at-clause-some c =
     let same = div_ceil-16 c.args.area.from in
     let k = c.loop-paragraph.paragraph in
     first_of_multiples (HasPointerAt c.args.image.now) low (c.args.area.to / 16 - low) k (omega arith) (omega arith)
-      (λ j above below. c.loop-paragraph.invariant j (omega arith) below) (c.has_pointer_at.ensures.0 c.if-has_pointer_at.true)
+    (λ j above below. c.loop-paragraph.invariant j (omega arith) below) (c.has_pointer_at.ensures.0 c.if-has_pointer_at.true)
 
 pub loop-paragraph-preserved : goal.loop-paragraph-preserved
 loop-paragraph-preserved c =
     λ j above below there. elim (cases_lt j c.loop-paragraph.paragraph) [
       | inl before ↦ c.loop-paragraph.invariant j above before there
       | inr le ↦
-        let here : j ≡ c.loop-paragraph.paragraph = omega arith in
-        let found = c.has_pointer_at.ensures.1 (subst (λ (k : ℕ). HasPointerAt c.args.image.now (16 * k)) here there) in
-        absurd (false≢true (sym c.if-has_pointer_at.false ∙ found))
+          let here : j ≡ c.loop-paragraph.paragraph = omega arith in
+          let found = c.has_pointer_at.ensures.1 (subst (λ (k : ℕ). HasPointerAt c.args.image.now (16 * k)) here there) in
+          absurd (false≢true (sym c.if-has_pointer_at.false ∙ found))
     ]
 
 pub returns-clause-none : goal.returns-clause-none
@@ -27,4 +27,4 @@ returns-clause-none c =
     let low = (c.args.area.from + 15) / 16 in
     let same = div_ceil-16 c.args.area.from in
     none_of_multiples (HasPointerAt c.args.image.now) low (c.args.area.to / 16 - low)
-      (λ j above below. c.loop-paragraph.invariant j (omega arith) (omega arith))
+    (λ j above below. c.loop-paragraph.invariant j (omega arith) (omega arith))

@@ -10,4 +10,4 @@ returns-clause-refused g c =
 pub returns-clause-complete : goal.returns-clause-complete
 returns-clause-complete g c =
     complete_where_told (map string_bytes c.args.words.now) (g.S.Shelf.files c.args.shelf.now) c.walk.result (g.O.Sink.written c.args.out.now) (g.O.Sink.written c.walk.new.out)
-      (Rose (g.S.Shelf.faults c.args.shelf.now) (g.S.Shelf.faults c.walk.new.shelf)) (Rose (g.O.Sink.faults c.args.out.now) (g.O.Sink.faults c.walk.new.out)) c.walk.ensures.unread c.walk.ensures.unwritten c.walk.ensures.due
+    (Rose (g.S.Shelf.faults c.args.shelf.now) (g.S.Shelf.faults c.walk.new.shelf)) (Rose (g.O.Sink.faults c.args.out.now) (g.O.Sink.faults c.walk.new.out)) c.walk.ensures.unread c.walk.ensures.unwritten c.walk.ensures.due
