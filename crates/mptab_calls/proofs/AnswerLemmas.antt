@@ -1,5 +1,5 @@
 -- What follows from an answer.
-use Rattle.std.proofs.Common.{◌≡◌, ℕ, ◌≤◌, ◌<◌, List, [], ◌∷◌, length, map, get_or, Option, Some, None, refl, inl, inr, arith}
+use Rattle.std.proofs.Common.{◌≡◌, ℕ, ◌≤◌, ◌<◌, List, [], ◌∷◌, length, map, get_or, Option, Some, refl, inl, inr, arith}
 use Rattle.mpt_base.specs.Outside.{Files}
 use Rattle.mptab_calls.specs.Answer.{image_limit, Holds, IsImageDue, IsShowDue}
 

@@ -1,19 +1,14 @@
 -- What follows from what is due: the cause of a refusal, and that words and told files have one answer.
-use Rattle.std.proofs.Common.{◌≡◌, ◌≢◌, ℕ, ◌≤◌, ◌<◌, List, [], ◌∷◌, length, Option, Some, None, IfSome, refl, sym, subst, ◌∙◌, ap, inl, inr, arith}
-use Rattle.std.specs.Prelude.{◌⊎◌, codes}
-use Rattle.mpt_base.specs.Outside.{Files, Rose, Appends}
-use Rattle.mpt_base.specs.declared.fault.Reason.{Reason}
-use Rattle.mpt_spec.specs.declared.tables.Tables.{Tables}
-use Rattle.mpt_spec.specs.Search.{HasNoPointer, HasPointerAt, search_places}
-use Rattle.mpt_spec.specs.Table.{Describes}
-use Rattle.mpt_spec.specs.Faults.{IsFirstFault}
+use Rattle.std.proofs.Common.{◌≡◌, ◌≢◌, ℕ, List, [], ◌∷◌, Option, Some, None, IfSome, refl, sym, subst, ◌∙◌, ap, inl, inr, arith}
+use Rattle.std.specs.Prelude.{codes}
+use Rattle.mpt_base.specs.Outside.{Files}
+use Rattle.mpt_spec.specs.Search.{HasPointerAt, search_places}
 use Rattle.mpt_spec.proofs.SearchLemmas.{IsFirst-some}
 use Rattle.mpt_spec.proofs.TableLemmas.{Describes-unique}
 use Rattle.mpt_spec.proofs.FaultLemmas.{IsFirstFault-unique, Describes-no_first_fault}
 use Rattle.mpt_listing.specs.Listing.{listing_of}
-use Rattle.mptab_calls.specs.Texts.{fault_line}
-use Rattle.mptab_calls.specs.Answer.{image_limit, IsShow, IsNoForm, Holds, IsImageAnswer, IsShowAnswer, IsFileAnswer, IsAnswer, IsDue, IsDelivered}
-use Rattle.mptab_calls.specs.Causes.{NamesFile, IsFaulty, IsWhole}
+use Rattle.mptab_calls.specs.Answer.{IsShow, Holds, IsImageAnswer, IsShowAnswer, IsAnswer, IsDue, IsDelivered, Answers, IsWhole, AnswersWhole}
+use Rattle.mptab_calls.specs.Causes.{NamesFile, IsFaulty}
 
 -- what may be the file of a name is it, where the files are told
 told : (told : Option Files) (name : List ℕ) (held : Option (List ℕ)) (P : Option (List ℕ) → Type 0) → Holds told name held → P held → IfSome told (λ files. P (files name))
@@ -36,12 +31,8 @@ delivered_status : (result status k : ℕ) (text : List ℕ) (a b : Option (List
 delivered_status result status k text a b (inl d) e n = sym d.0 ∙ e
 delivered_status result status k text a b (inr d) e n = absurd (n (sym e ∙ d.0))
 
--- what is due and was delivered
-abbrev pub Answered : List (List ℕ) → Option Files → ℕ → Option (List ℕ) → Option (List ℕ) → Type 0
-Answered words files result a b = (status : ℕ) × (text : List ℕ) × IsDue words files status text × IsDelivered result status text a b
-
 -- status 7 that was delivered has its cause
-pub refused_answer : (words : List (List ℕ)) (files : Option Files) (result : ℕ) (a b : Option (List ℕ)) → Answered words files result a b → result ≡ 7 → NamesFile words files IsFaulty
+pub refused_answer : (words : List (List ℕ)) (files : Option Files) (result : ℕ) (a b : Option (List ℕ)) → Answers words files result a b → result ≡ 7 → NamesFile words files IsFaulty
 refused_answer words files result a b (status, text, due, delivered) e = refused_cause words files status text due (delivered_status result status 7 text a b delivered e (λ five. absurd (omega (arith, five))))
 
 -- ---- the answer of the walk is one
@@ -81,7 +72,7 @@ answer_is_one words files s u t v (inr (name, shows, (held, h, a))) (inr (other,
     show_answer_is_one name held s u t v a b2
 
 -- without a failed read and a failed write, the answer of the walk is given whole, unless memory ran out
-pub complete : (words : List (List ℕ)) (files : Files) (result : ℕ) (a b : Option (List ℕ)) → result ≢ 4 → result ≢ 5 → Answered words (Some files) result a b → (status : ℕ) (text : List ℕ) → IsAnswer words (Some files) status text → IsWhole result status text a b
+pub complete : (words : List (List ℕ)) (files : Files) (result : ℕ) (a b : Option (List ℕ)) → result ≢ 4 → result ≢ 5 → Answers words (Some files) result a b → (status : ℕ) (text : List ℕ) → IsAnswer words (Some files) status text → IsWhole result status text a b
 complete words files result a b read written (s, t, due, inr d) status text answer = absurd (written d.0)
 complete words files result a b read written (s, t, inl u, inl d) status text answer =
     let one = answer_is_one words files s status t text (inl u) answer in
@@ -94,8 +85,6 @@ complete words files result a b read written (s, t, inr (name, show, inr (inr (i
     inr (d.0 ∙ e, rw (← line) d.1)
 
 -- the same where the files may be told or not
-pub complete_where_told : (words : List (List ℕ)) (files : Option Files) (result : ℕ) (a b : Option (List ℕ)) (ReadFailed WriteFailed : Type 0) → (result ≡ 4 → ReadFailed) → (result ≡ 5 → WriteFailed) → Answered words files result a b
-    → IfSome files (λ fs. (status : ℕ) (text : List ℕ) → IsAnswer words (Some fs) status text → ¬ ReadFailed → ¬ WriteFailed → IsWhole result status text a b)
-complete_where_told words None result a b ReadFailed WriteFailed read written answered = tt
-complete_where_told words (Some fs) result a b ReadFailed WriteFailed read written answered = λ status text answer no_read no_write.
-    complete words fs result a b (λ e. no_read (read e)) (λ e. no_write (written e)) answered status text answer
+pub complete_where_told : (words : List (List ℕ)) (files : Option Files) (result : ℕ) (a b : Option (List ℕ)) → result ≢ 4 → result ≢ 5 → Answers words files result a b → AnswersWhole words files result a b
+complete_where_told words None result a b read written answered = tt
+complete_where_told words (Some fs) result a b read written answered = complete words fs result a b read written answered

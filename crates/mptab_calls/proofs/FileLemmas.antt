@@ -1,11 +1,11 @@
 -- A file that is read piece by piece.
-use Rattle.std.proofs.Common.{◌≡◌, ℕ, ◌+◌, ◌-◌, ◌≤◌, ◌<◌, List, [], ◌∷◌, ◌++◌, length, take, drop, replicate, take-add, Option, Some, None, IfSome, refl, sym, ap, ◌∙◌, arith}
+use Rattle.std.proofs.Common.{◌≡◌, ℕ, ◌+◌, ◌≤◌, List, ◌++◌, length, take, replicate, take-add, Option, Some, None, IfSome, refl, sym, ap, ◌∙◌}
 use Rattle.std.specs.Prelude.{option_map}
 use borrow.Rule.Slice.PartMut.{put_mid}
 use Rattle.std.proofs.lemmas.Slice.{take-put_mid}
 use Rattle.std.proofs.lemmas.List.{length-replicate}
 use Rattle.mpt_base.specs.Bytes.{part}
-use Rattle.mpt_base.specs.Outside.{Files, IsSizeTold, IsInsideTold, FillsFromTold}
+use Rattle.mpt_base.specs.Outside.{Files, IsSizeTold, FillsFromTold}
 use Rattle.mptab_calls.specs.Answer.{Holds}
 use Rattle.mptab_calls.specs.File.{IsFilledTo}
 

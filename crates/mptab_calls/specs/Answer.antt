@@ -6,7 +6,11 @@
 --     IsAnswer words told status text    the answer of the walk
 --     IsDue words told status text       the answer, or a failed read or want of memory in its place
 --     IsDelivered ..                     the text came to the sink's end, or a first part of it with status 5
-use Rattle.std.specs.Prelude.{◌≡◌, ◌≤◌, ◌<◌, ℕ, List, [], ◌∷◌, length, Option, Some, None, codes, ⊤, ◌⊎◌}
+--     texts_of words                     the texts of the words
+--     Answers ..                         what is due was delivered
+--     AnswersWhole ..                    the answer of the walk was given whole
+use Rattle.std.specs.Prelude.{◌≡◌, ◌≤◌, ◌<◌, ℕ, List, [], ◌∷◌, length, map, string_bytes, String, Option, Some, None, IfSome, codes, ⊤, ◌⊎◌}
+use Rattle.std.specs.Global.{Global}
 use Rattle.mpt_base.specs.Outside.{Files, Appends, AppendsPrefix}
 use Rattle.mpt_base.specs.declared.fault.Reason.{Reason}
 use Rattle.mpt_spec.specs.declared.tables.Tables.{Tables}
@@ -82,3 +86,20 @@ IsDue words told status text = IsUsageAnswer words status text ⊎ ((name : List
 -- the whole text came to what was written, or, with status 5, a first part of it
 abbrev pub IsDelivered : ℕ → ℕ → List ℕ → Option (List ℕ) → Option (List ℕ) → Type 0
 IsDelivered result status text before after = ((result ≡ status) × Appends before after text) ⊎ ((result ≡ 5) × AppendsPrefix before after text)
+
+-- the texts of the words
+abbrev pub texts_of : List (String Global) → List (List ℕ)
+texts_of words = map string_bytes words
+
+-- the status and what was written are those of an answer that is due
+abbrev pub Answers : List (List ℕ) → Option Files → ℕ → Option (List ℕ) → Option (List ℕ) → Type 0
+Answers words told result before after = (status : ℕ) × (text : List ℕ) × IsDue words told status text × IsDelivered result status text before after
+
+-- this status and the whole text, or want of memory and its line
+abbrev pub IsWhole : ℕ → ℕ → List ℕ → Option (List ℕ) → Option (List ℕ) → Type 0
+IsWhole result status text before after = ((result ≡ status) × Appends before after text) ⊎ ((result ≡ 9) × Appends before after no_memory_line)
+
+-- where the files are told, the answer of the walk is given whole, unless memory ran out
+abbrev pub AnswersWhole : List (List ℕ) → Option Files → ℕ → Option (List ℕ) → Option (List ℕ) → Type 0
+AnswersWhole words told result before after =
+    IfSome told (λ files. (status : ℕ) (text : List ℕ) → IsAnswer words (Some files) status text → IsWhole result status text before after)

@@ -1,14 +1,12 @@
 -- What a status says of words and files.
 --     NamesFile words told P    the words name a file, and where the files are told, P holds of what it is
---     IsComplete ..             the whole answer, unless memory ran out
-use Rattle.std.specs.Prelude.{◌≡◌, ◌≤◌, ◌<◌, ◌⊎◌, ℕ, List, length, Option, Some, None, IfSome, IsSomeAnd}
-use Rattle.mpt_base.specs.Outside.{Files, Appends}
+use Rattle.std.specs.Prelude.{◌≡◌, ◌≤◌, ◌<◌, ℕ, List, length, Option, None, IfSome, IsSomeAnd}
+use Rattle.mpt_base.specs.Outside.{Files}
 use Rattle.mpt_base.specs.declared.fault.Reason.{Reason}
 use Rattle.mpt_spec.specs.declared.tables.Tables.{Tables}
 use Rattle.mpt_spec.specs.Search.{HasNoPointer}
 use Rattle.mpt_spec.specs.Table.{Describes}
 use Rattle.mpt_spec.specs.Faults.{IsFirstFault}
-use Rattle.mptab_calls.specs.Texts.{no_memory_line}
 use Rattle.mptab_calls.specs.Answer.{image_limit, IsShow}
 
 -- the words name a file, and where the files are told, P holds of what the file of that name is
@@ -38,7 +36,3 @@ IsWithoutPointer held = IsSomeAnd held HasNoPointer
 -- the file is an image whose tables are refused for a first fault
 abbrev pub IsFaulty : Option (List ℕ) → Type 0
 IsFaulty held = IsSomeAnd held (λ image. (at : ℕ) × (why : Reason) × IsFirstFault image at why)
-
--- this status and the whole text, or want of memory and its line
-abbrev pub IsWhole : ℕ → ℕ → List ℕ → Option (List ℕ) → Option (List ℕ) → Type 0
-IsWhole result status text before after = ((result ≡ status) × Appends before after text) ⊎ ((result ≡ 9) × Appends before after no_memory_line)

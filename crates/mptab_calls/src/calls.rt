@@ -1,9 +1,17 @@
 //! The top calls. The words of a command line are taken as they stand; each listed form has one arm.
 
-ghost use Rattle.std.specs.Prelude.{◌≡◌, ◌⊎◌, ℕ, List, Some, map, string_bytes, IfSome, MatchOption};
+ghost use Rattle.std.specs.Prelude.{◌≡◌, ◌⊎◌, MatchOption};
 ghost use Rattle.mpt_base.specs.Outside.{Rose};
-ghost use Rattle.mptab_calls.specs.Answer.{IsNoForm, IsShow, IsAnswer, IsDue, IsDelivered};
-ghost use Rattle.mptab_calls.specs.Causes.{NamesFile, IsAbsent, IsTooLarge, IsWithinLimit, IsDescribed, IsWithoutPointer, IsFaulty, IsWhole};
+ghost use Rattle.mptab_calls.specs.Answer.{IsNoForm, IsShow, texts_of, Answers, AnswersWhole};
+ghost use Rattle.mptab_calls.specs.Causes.{
+  NamesFile,
+  IsAbsent,
+  IsTooLarge,
+  IsWithinLimit,
+  IsDescribed,
+  IsWithoutPointer,
+  IsFaulty,
+};
 
 use crate::delivery::deliver_line;
 use crate::show::show;
@@ -15,7 +23,8 @@ use std::thread::Threads;
 
 // the image that the words name, where they are `show IMAGE`
 fn shown_image(words: &[String]) -> Option<&str>
-    ensures { MatchOption result (IsNoForm (map string_bytes words.now)) (λ name. IsShow (map string_bytes words.now) name.now) }
+    ensures { MatchOption result (IsNoForm (texts_of words.now))
+        (λ name. IsShow (texts_of words.now) name.now) }
 {
     match words {
         [word, name] if word.as_str() == "show" => Some(name.as_str()),
@@ -25,8 +34,8 @@ fn shown_image(words: &[String]) -> Option<&str>
 
 // the walk over words and files
 fn walk<S: Shelf, O: Sink>(alloc: Global, words: &[String], shelf: &mut S, out: &mut O) -> u8
-    ensures due { (status : ℕ) × (text : List ℕ) × IsDue (map string_bytes words.now) (S.files shelf.old) status text
-        × IsDelivered result status text (O.written out.old) (O.written out.new) }
+    ensures due { Answers (texts_of words.now) (S.files shelf.old) result
+        (O.written out.old) (O.written out.new) }
     ensures missing { result ≡ 3 → Rose (S.misses shelf.old) (S.misses shelf.new) }
     ensures unread { result ≡ 4 → Rose (S.faults shelf.old) (S.faults shelf.new) }
     ensures unwritten { result ≡ 5 → Rose (O.faults out.old) (O.faults out.new) }
@@ -48,26 +57,25 @@ pub fn run_still<S: Shelf, O: Sink>(
     out: &mut O,
 ) -> u8
     // Status and text are an answer of words and files, or say that a read failed or memory ran out.
-    ensures answer { (status : ℕ) × (text : List ℕ) × IsDue (map string_bytes words.now) (S.files shelf.old) status text
-        × IsDelivered result status text (O.written out.old) (O.written out.new) }
+    ensures answer { Answers (texts_of words.now) (S.files shelf.old) result
+        (O.written out.old) (O.written out.new) }
 
     // Each status has its cause.
-    ensures shown { result ≡ 0 → NamesFile (map string_bytes words.now) (S.files shelf.old) IsDescribed }
-    ensures usage { result ≡ 2 → IsNoForm (map string_bytes words.now) }
-    ensures only_usage { IsNoForm (map string_bytes words.now) → (result ≡ 2) ⊎ (result ≡ 5) }
+    ensures shown { result ≡ 0 → NamesFile (texts_of words.now) (S.files shelf.old) IsDescribed }
+    ensures usage { result ≡ 2 → IsNoForm (texts_of words.now) }
+    ensures only_usage { IsNoForm (texts_of words.now) → (result ≡ 2) ⊎ (result ≡ 5) }
     ensures missing { result ≡ 3 → Rose (S.misses shelf.old) (S.misses shelf.new) }
-    ensures absent { result ≡ 3 → NamesFile (map string_bytes words.now) (S.files shelf.old) IsAbsent }
+    ensures absent { result ≡ 3 → NamesFile (texts_of words.now) (S.files shelf.old) IsAbsent }
     ensures unread { result ≡ 4 → Rose (S.faults shelf.old) (S.faults shelf.new) }
     ensures unwritten { result ≡ 5 → Rose (O.faults out.old) (O.faults out.new) }
-    ensures no_pointer { result ≡ 6 → NamesFile (map string_bytes words.now) (S.files shelf.old) IsWithoutPointer }
-    ensures refused { result ≡ 7 → NamesFile (map string_bytes words.now) (S.files shelf.old) IsFaulty }
-    ensures no_memory { result ≡ 9 → NamesFile (map string_bytes words.now) (S.files shelf.old) IsWithinLimit }
-    ensures too_large { result ≡ 10 → NamesFile (map string_bytes words.now) (S.files shelf.old) IsTooLarge }
+    ensures no_pointer { result ≡ 6 → NamesFile (texts_of words.now) (S.files shelf.old) IsWithoutPointer }
+    ensures refused { result ≡ 7 → NamesFile (texts_of words.now) (S.files shelf.old) IsFaulty }
+    ensures no_memory { result ≡ 9 → NamesFile (texts_of words.now) (S.files shelf.old) IsWithinLimit }
+    ensures too_large { result ≡ 10 → NamesFile (texts_of words.now) (S.files shelf.old) IsTooLarge }
 
     // Where files are told and no call fails, the answer comes whole, unless memory runs out.
-    ensures complete { IfSome (S.files shelf.old) (λ files. (status : ℕ) (text : List ℕ) → IsAnswer (map string_bytes words.now) (Some files) status text
-        → ¬ Rose (S.faults shelf.old) (S.faults shelf.new) → ¬ Rose (O.faults out.old) (O.faults out.new)
-        → IsWhole result status text (O.written out.old) (O.written out.new)) }
+    ensures complete { ¬ Rose (S.faults shelf.old) (S.faults shelf.new) → ¬ Rose (O.faults out.old) (O.faults out.new)
+        → AnswersWhole (texts_of words.now) (S.files shelf.old) result (O.written out.old) (O.written out.new) }
 {
     walk(alloc, words, shelf, out)
 }
@@ -81,26 +89,25 @@ pub fn run<R: Threads + Wait + Sync, S: Shelf, O: Sink>(
     out: &mut O,
 ) -> u8
     // Status and text are an answer of words and files, or say that a read failed or memory ran out.
-    ensures answer { (status : ℕ) × (text : List ℕ) × IsDue (map string_bytes words.now) (S.files shelf.old) status text
-        × IsDelivered result status text (O.written out.old) (O.written out.new) }
+    ensures answer { Answers (texts_of words.now) (S.files shelf.old) result
+        (O.written out.old) (O.written out.new) }
 
     // Each status has its cause.
-    ensures shown { result ≡ 0 → NamesFile (map string_bytes words.now) (S.files shelf.old) IsDescribed }
-    ensures usage { result ≡ 2 → IsNoForm (map string_bytes words.now) }
-    ensures only_usage { IsNoForm (map string_bytes words.now) → (result ≡ 2) ⊎ (result ≡ 5) }
+    ensures shown { result ≡ 0 → NamesFile (texts_of words.now) (S.files shelf.old) IsDescribed }
+    ensures usage { result ≡ 2 → IsNoForm (texts_of words.now) }
+    ensures only_usage { IsNoForm (texts_of words.now) → (result ≡ 2) ⊎ (result ≡ 5) }
     ensures missing { result ≡ 3 → Rose (S.misses shelf.old) (S.misses shelf.new) }
-    ensures absent { result ≡ 3 → NamesFile (map string_bytes words.now) (S.files shelf.old) IsAbsent }
+    ensures absent { result ≡ 3 → NamesFile (texts_of words.now) (S.files shelf.old) IsAbsent }
     ensures unread { result ≡ 4 → Rose (S.faults shelf.old) (S.faults shelf.new) }
     ensures unwritten { result ≡ 5 → Rose (O.faults out.old) (O.faults out.new) }
-    ensures no_pointer { result ≡ 6 → NamesFile (map string_bytes words.now) (S.files shelf.old) IsWithoutPointer }
-    ensures refused { result ≡ 7 → NamesFile (map string_bytes words.now) (S.files shelf.old) IsFaulty }
-    ensures no_memory { result ≡ 9 → NamesFile (map string_bytes words.now) (S.files shelf.old) IsWithinLimit }
-    ensures too_large { result ≡ 10 → NamesFile (map string_bytes words.now) (S.files shelf.old) IsTooLarge }
+    ensures no_pointer { result ≡ 6 → NamesFile (texts_of words.now) (S.files shelf.old) IsWithoutPointer }
+    ensures refused { result ≡ 7 → NamesFile (texts_of words.now) (S.files shelf.old) IsFaulty }
+    ensures no_memory { result ≡ 9 → NamesFile (texts_of words.now) (S.files shelf.old) IsWithinLimit }
+    ensures too_large { result ≡ 10 → NamesFile (texts_of words.now) (S.files shelf.old) IsTooLarge }
 
     // Where files are told and no call fails, the answer comes whole, unless memory runs out.
-    ensures complete { IfSome (S.files shelf.old) (λ files. (status : ℕ) (text : List ℕ) → IsAnswer (map string_bytes words.now) (Some files) status text
-        → ¬ Rose (S.faults shelf.old) (S.faults shelf.new) → ¬ Rose (O.faults out.old) (O.faults out.new)
-        → IsWhole result status text (O.written out.old) (O.written out.new)) }
+    ensures complete { ¬ Rose (S.faults shelf.old) (S.faults shelf.new) → ¬ Rose (O.faults out.old) (O.faults out.new)
+        → AnswersWhole (texts_of words.now) (S.files shelf.old) result (O.written out.old) (O.written out.new) }
 {
     let _ = rt;
     run_still(alloc, words, shelf, out)

@@ -1,6 +1,5 @@
-use Rattle.std.proofs.Common.{◌≡◌, ◌+◌, List, ℕ, [], ◌∷◌, ◌++◌, map, drop, get_or, length, refl, ap, arith}
+use Rattle.std.proofs.Common.{List, ℕ, [], get_or, arith}
 use Rattle.std.specs.Borrow.{Bor}
-use Rattle.mpt_listing.specs.Listing.{line}
 use Rattle.mptab_calls.proofs.DeliveryLemmas.{WritesFront-piece, WritesFront-fails, line-drop, line-end, WritesFront-last_fails}
 use Rattle.mptab_calls.proofs.delivery.put_line.Goals as goal
 

@@ -1,4 +1,4 @@
-use Rattle.std.proofs.Common.{◌≡◌, ◌+◌, ◌-◌, length, take, drop, length-take, length-drop, ◌∙◌, arith}
+use Rattle.std.proofs.Common.{◌≡◌, ◌-◌, length, length-take, length-drop, ◌∙◌, arith}
 use Rattle.mptab_calls.proofs.FileLemmas.{IsFilledTo-piece}
 use Rattle.mptab_calls.proofs.file.fill.Goals as goal
 

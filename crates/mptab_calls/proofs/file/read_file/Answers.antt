@@ -1,4 +1,3 @@
-use Rattle.std.proofs.Common.{arith}
 use Rattle.mptab_calls.proofs.FileLemmas.{Holds-told}
 use Rattle.mptab_calls.proofs.file.read_file.Goals as goal
 
