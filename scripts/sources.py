@@ -68,7 +68,7 @@ def contract_at(lines, number, indent):
 def functions_of(crate):
     for path in source_files(crate):
         owner, open_to_all = None, False
-        lines = path.read_text().splitlines()
+        lines = path.read_text("utf-8").splitlines()
         for number, line in enumerate(lines):
             if BLOCK.match(line):
                 owner, open_to_all = type_of_block(line)
@@ -85,7 +85,7 @@ def functions_of(crate):
 def words_of(path):
     """The words that a file of specs/ declares, in order: each with its comment and its definition."""
     words, comment, definition = {}, [], None
-    for line in path.read_text().splitlines():
+    for line in path.read_text("utf-8").splitlines():
         found = WORD.match(line)
         if found:
             definition = []
