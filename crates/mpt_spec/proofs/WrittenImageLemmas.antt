@@ -28,26 +28,26 @@ module _ (image bytes : List ℕ) (at : ℕ) (fits : at + length bytes ≤ lengt
   front_long : length (take at image) ≡ at
   front_long = length-take-le at image (omega arith)
 
-  overlay-parts : overlay image at bytes ≡ take at image ++ (bytes ++ drop (at + length bytes) image)
+  pub overlay-parts : overlay image at bytes ≡ take at image ++ (bytes ++ drop (at + length bytes) image)
   overlay-parts = append_assoc (take at image) bytes (drop (at + length bytes) image)
 
-  length-overlay : length (overlay image at bytes) ≡ length image
+  pub length-overlay : length (overlay image at bytes) ≡ length image
   length-overlay =
       length-append (take at image ++ bytes) (drop (at + length bytes) image)
       ∙ omega (arith, front_long, length-append (take at image) bytes, length-drop (at + length bytes) image)
 
-  part-overlay_here : part (overlay image at bytes) at (length bytes) ≡ bytes
+  pub part-overlay_here : part (overlay image at bytes) at (length bytes) ≡ bytes
   part-overlay_here =
       part-behind (length bytes) (overlay image at bytes) (take at image) (bytes ++ drop (at + length bytes) image) at 0 overlay-parts (omega (arith, front_long))
       ∙ take-append_whole (length bytes) bytes (drop (at + length bytes) image) refl
 
-  part-overlay_before : (i n : ℕ) → i + n ≤ at → part (overlay image at bytes) i n ≡ part image i n
+  pub part-overlay_before : (i n : ℕ) → i + n ≤ at → part (overlay image at bytes) i n ≡ part image i n
   part-overlay_before i n h =
       let low : i + n ≤ length (take at image) = omega (arith, front_long) in
       ap (λ xs. part xs i n) overlay-parts ∙ part-before n (take at image) (bytes ++ drop (at + length bytes) image) i low
       ∙ sym (part-before n (take at image) (drop at image) i low) ∙ ap (λ xs. part xs i n) (take-append-drop at image)
 
-  part-overlay_after : (i n : ℕ) → at + length bytes ≤ i → part (overlay image at bytes) i n ≡ part image i n
+  pub part-overlay_after : (i n : ℕ) → at + length bytes ≤ i → part (overlay image at bytes) i n ≡ part image i n
   part-overlay_after i n h =
       let k : ℕ = at + length bytes in
       let over_long : length (take at image ++ bytes) ≡ k = length-append (take at image) bytes ∙ ap (λ x. x + length bytes) front_long in
@@ -102,7 +102,7 @@ IsWrittenImage-describes tables image v f w =
     }
 
 -- the image over these bytes
-abbrev image_over : List ℕ → Tables → List ℕ
+abbrev pub image_over : List ℕ → Tables → List ℕ
 image_over bytes tables =
     overlay (overlay (overlay bytes 0x40E (to_le_bytes w16 (tables.at / 16))) tables.at (pointer_bytes tables.pointer)) tables.pointer.address (block_bytes tables.body)
 
@@ -180,6 +180,11 @@ image_over-written bytes tables (body.Listed t) listed size v f =
 
 length-zeros : (n : ℕ) → length {A = ℕ} (replicate n 0) ≡ n
 length-zeros n = length-replicate n 0
+
+-- the image that is written is the image over zeros, whose cells nothing here computes
+pub image_of-over_zeros : (tables : Tables) → image_of tables ≡ image_over (replicate 0x100000 0) tables
+unfolding image_of
+image_of-over_zeros tables = refl
 
 -- what holds of the image over any 1 MiB holds of the image that is written
 over_any : (P : List ℕ → Type 0) (tables : Tables) → ((bytes : List ℕ) → length bytes ≡ 0x100000 → P (image_over bytes tables)) → P (image_of tables)
