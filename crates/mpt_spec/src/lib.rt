@@ -3,9 +3,7 @@
 #![tactic(auto)]
 
 mod entry;
-pub mod examples;
 mod interrupt;
-pub mod laws;
 mod pointer;
 mod sequence;
 mod tables;

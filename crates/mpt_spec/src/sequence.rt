@@ -40,18 +40,3 @@ impl<T> Sequence<T> {
         self.items.as_slice()
     }
 }
-
-#[cfg(test)]
-mod tests {
-    use super::*;
-    use std::test::Fail;
-
-    #[test]
-    fn keeps_its_members_in_order(rt: HostRuntime) -> Result<(), Fail> {
-        let sequence = Sequence::new(vec![in rt.alloc(); 3u8, 1, 2]?);
-        assert_eq!(rt; sequence.as_slice(), [3, 1, 2].as_slice());
-        let items = sequence.into_vec();
-        assert_eq!(rt; items.as_slice(), [3, 1, 2].as_slice());
-        Ok(())
-    }
-}

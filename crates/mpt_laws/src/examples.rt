@@ -1,0 +1,73 @@
+//! Worked examples of the definitions: what they say of small tables and images whose bytes are written
+//! out by hand. An example is the contract of a function that does nothing.
+
+ghost use Rattle.std.specs.Prelude.{◌≡◌, ◌+◌, [], ◌∷◌, ◌++◌, length};
+ghost use Rattle.std.specs.List.{flat_map};
+ghost use Rattle.mpt_base.specs.declared.fault.Reason.TheVariants as why;
+ghost use Rattle.mpt_spec.specs.Search.{areas_of, places_in};
+ghost use Rattle.mpt_spec.specs.Table.{Describes};
+ghost use Rattle.mpt_spec.specs.Faults.{IsFirstFault};
+ghost use Rattle.mpt_spec.specs.Canonical.{IsCanonical, FitsInImage, canonical_of, block_size};
+ghost use Rattle.mpt_spec.specs.Image.{table_bytes, block_bytes, pointer_bytes};
+ghost use Rattle.mpt_laws.specs.Examples.{one_processor, one_processor_bytes, header_with, entry_with, small_pointer, small_pointer_bytes, small_image_with, small_image, small_tables, extended_tables, default_image, default_tables, second_place_image, second_place_tables, board_tables, board_pointer_bytes};
+
+/// A table of one processor and floating pointers to it at 510h and F0010h have the bytes that the figures of chapter 4 give.
+pub fn bytes_of_one_processor()
+    ensures table { table_bytes one_processor ≡ one_processor_bytes }
+    ensures pointer { pointer_bytes small_pointer ≡ small_pointer_bytes }
+    ensures high_pointer { pointer_bytes board_tables.pointer ≡ board_pointer_bytes }
+{}
+
+/// The small image of 1,360 bytes describes that table.
+pub fn small_image_describes_its_table()
+    ensures size { length small_image ≡ 1360 }
+    ensures describes { Describes small_image small_tables }
+{}
+
+/// The tables of a usual board take 260 bytes, are canonical and have a place in an image of 1 MiB.
+pub fn board_is_canonical()
+    ensures bytes { length (block_bytes board_tables.body) ≡ 260 }
+    ensures size { block_size board_tables.body ≡ 260 }
+    ensures canonical { IsCanonical board_tables }
+    ensures unchanged { canonical_of board_tables ≡ board_tables }
+    ensures fits { FitsInImage board_tables }
+{}
+
+/// A pointer may name a default configuration, a table may have an opaque extended entry, and a place
+/// at which a byte of the floating pointer is wrong is passed over.
+pub fn other_images_describe_their_tables()
+    ensures default_configuration { Describes (default_image 5 0x9B) (default_tables 5) }
+    ensures opaque_entry { Describes (small_image_with (header_with 0x40 0x61 1 2 0x36 ++ entry_with 0 ++ 0xC8 ∷ 2 ∷ [])) extended_tables }
+    ensures second_place { Describes second_place_image second_place_tables }
+{}
+
+/// The search in an image of 1 MiB: the first kilobyte of the EBDA, or the last kilobyte of base memory
+/// of 640 KiB, has 64 places, and the BIOS read-only memory has 4,096.
+pub fn places_of_a_whole_image()
+    ensures ebda { length (flat_map places_in (areas_of 0x9FC0 0 0x100000)) ≡ 64 + 4096 }
+    ensures base_memory { areas_of 0 640 0x100000 ≡ areas_of 0x9FC0 640 0x100000 }
+    ensures neither { length (flat_map places_in (areas_of 0 0 0x100000)) ≡ 4096 }
+    ensures cut { length (flat_map places_in (areas_of 0x50 0 1360)) ≡ 5 }
+{}
+
+/// A number of a default configuration above 7, and neither a default configuration nor a table.
+pub fn faults_of_the_pointer()
+    ensures bad_default { IsFirstFault (default_image 8 0x98) 0x50B why.BadDefault }
+    ensures no_table { IsFirstFault (default_image 0 0xA0) 0x504 why.NoTable }
+{}
+
+/// A base length of 43, whose sum isn't looked at; a wrong checksum; an entry count of 2 for one entry.
+pub fn faults_of_the_header()
+    ensures short_length { IsFirstFault (small_image_with (header_with 43 0x99 1 0 0 ++ entry_with 0)) 0x514 why.ShortLength }
+    ensures bad_sum { IsFirstFault (small_image_with (header_with 0x40 0x9A 1 0 0 ++ entry_with 0)) 0x517 why.BadSum }
+    ensures bad_count { IsFirstFault (small_image_with (header_with 0x40 0x98 2 0 0 ++ entry_with 0)) 0x532 why.BadCount }
+{}
+
+/// A base length that is one byte short, a base entry of type 5, an extended entry of type 7Fh, and one
+/// byte of an extended entry.
+pub fn faults_of_the_entries()
+    ensures cut_entry { IsFirstFault (small_image_with (header_with 63 0x9A 1 0 0 ++ entry_with 0)) 0x53C why.CutEntry }
+    ensures unknown_entry { IsFirstFault (small_image_with (header_with 0x40 0x94 1 0 0 ++ entry_with 5)) 0x53C why.UnknownEntry }
+    ensures bad_ext_type { IsFirstFault (small_image_with (header_with 0x40 0x18 1 2 0x7F ++ entry_with 0 ++ 0x7F ∷ 2 ∷ [])) 0x550 why.BadExtType }
+    ensures cut_ext_entry { IsFirstFault (small_image_with (header_with 0x40 0x60 1 1 0x38 ++ entry_with 0 ++ 0xC8 ∷ [])) 0x550 why.CutExtEntry }
+{}

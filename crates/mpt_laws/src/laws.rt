@@ -1,0 +1,117 @@
+//! Laws of the definitions, in the words of MultiProcessor Specification 1.4, chapter 4. A law is the
+//! contract of a function that does nothing: it holds of every area, image and table.
+
+ghost use Rattle.std.specs.Prelude.{◌≡◌, ◌+◌, ◌≤◌, ◌<◌, ◌^◌, ◌↔◌, ◌⊎◌, ℕ, List, ◌++◌, length};
+ghost use Rattle.std.specs.List.{Contains};
+ghost use Rattle.mpt_base.specs.Bytes.{part};
+ghost use Rattle.mpt_base.specs.declared.fault.Reason.{Reason};
+ghost use Rattle.mpt_spec.specs.declared.entry.Base.{Base};
+ghost use Rattle.mpt_spec.specs.declared.entry.Ext.{Ext};
+ghost use Rattle.mpt_spec.specs.declared.pointer.Area.{Area};
+ghost use Rattle.mpt_spec.specs.declared.pointer.Pointer.{Pointer};
+ghost use Rattle.mpt_spec.specs.declared.tables.Table.{Table};
+ghost use Rattle.mpt_spec.specs.declared.tables.Tables.{Tables};
+ghost use Rattle.mpt_spec.specs.Pointer.{IsFloatingPointer};
+ghost use Rattle.mpt_spec.specs.Search.{places_in, IsFirstPointerAt, HasNoPointer};
+ghost use Rattle.mpt_spec.specs.Entries.{IsBaseEntryAt, base_length};
+ghost use Rattle.mpt_spec.specs.Extended.{IsExtEntryAt, ext_length};
+ghost use Rattle.mpt_spec.specs.Canonical.{IsLawfulExt, IsWellFormedTable, IsWellFormed, FitsInImage, IsCanonical, canonical_of};
+ghost use Rattle.mpt_spec.specs.Table.{IsConfigurationTable, Describes};
+ghost use Rattle.mpt_spec.specs.Faults.{HasFaultAt, IsFirstFault};
+ghost use Rattle.mpt_spec.specs.Image.{base_bytes, ext_bytes, table_bytes, pointer_bytes, image_of};
+ghost use Rattle.mpt_laws.specs.Values.{IsByteList, IsBaseValue, IsExtValue, IsPointerValue, IsTableValue, IsTablesValue};
+ghost use Rattle.mpt_laws.specs.Laws.{IsPlaceOf, IsDescribed, HasFirstFault};
+
+/// The places of an area are the multiples of 16 in it that have 16 bytes before its end.
+pub fn places_of_an_area()
+    ensures { (area : Area) (place : ℕ) → Contains (places_in area) place ↔ IsPlaceOf area place }
+{}
+
+/// The search has at most one first place, and has none where no floating pointer stands.
+pub fn first_place_is_one()
+    ensures one { (image : List ℕ) (at other : ℕ) → IsFirstPointerAt image at → IsFirstPointerAt image other → at ≡ other }
+    ensures not_none { (image : List ℕ) (at : ℕ) → IsFirstPointerAt image at → ¬ HasNoPointer image }
+{}
+
+/// Sixteen bytes are one floating pointer.
+pub fn pointer_of_bytes_is_one()
+    ensures { (p q : Pointer) (bytes : List ℕ) → IsFloatingPointer p bytes → IsFloatingPointer q bytes → p ≡ q }
+{}
+
+/// The bytes that are written for an entry are that entry, wherever they stand.
+pub fn written_entry_is_there()
+    ensures base { (e : Base) (before after : List ℕ) (at : ℕ) → IsBaseValue e → length before ≡ at → IsBaseEntryAt e (before ++ (base_bytes e ++ after)) at }
+    ensures ext { (e : Ext) (before after : List ℕ) (at : ℕ) → IsExtValue e → IsLawfulExt e → length before ≡ at → IsExtEntryAt e (before ++ (ext_bytes e ++ after)) at }
+{}
+
+/// The bytes that are written for a table of revision 4, whose parts have lengths that 16 bits can say,
+/// are that table, wherever they stand.
+pub fn written_table_is_there()
+    ensures { (t : Table) (before after : List ℕ) (at : ℕ) → IsTableValue t → IsWellFormedTable t → length before ≡ at → IsConfigurationTable t (before ++ (table_bytes t ++ after)) at }
+{}
+
+/// The bytes that are written for a floating pointer are that floating pointer.
+pub fn written_pointer_is_there()
+    ensures { (p : Pointer) → IsPointerValue p → IsFloatingPointer p (pointer_bytes p) }
+{}
+
+/// What stands in an image of bytes is spelled in one way: an entry, a table and a floating pointer have
+/// there the bytes that are written for them.
+pub fn spelling_is_one()
+    ensures base { (e : Base) (image : List ℕ) (at : ℕ) → IsByteList image → at + base_length e ≤ length image → IsBaseEntryAt e image at → part image at (length (base_bytes e)) ≡ base_bytes e }
+    ensures ext { (e : Ext) (image : List ℕ) (at : ℕ) → IsByteList image → at + ext_length e ≤ length image → IsExtEntryAt e image at → part image at (length (ext_bytes e)) ≡ ext_bytes e }
+    ensures table { (t : Table) (image : List ℕ) (at : ℕ) → IsByteList image → IsConfigurationTable t image at → part image at (length (table_bytes t)) ≡ table_bytes t }
+    ensures pointer { (p : Pointer) (bytes : List ℕ) → IsByteList bytes → IsFloatingPointer p bytes → bytes ≡ pointer_bytes p }
+{}
+
+/// The image that is written for tables that have a place in it is one of 1 MiB that describes them.
+pub fn written_image_describes_its_tables()
+    ensures size { (tables : Tables) → IsTablesValue tables → FitsInImage tables → length (image_of tables) ≡ 0x100000 }
+    ensures describes { (tables : Tables) → IsTablesValue tables → FitsInImage tables → Describes (image_of tables) tables }
+{}
+
+/// What stands at a place of an image is one configuration table at most, and an image describes at
+/// most one pointer and body.
+pub fn tables_of_image_are_one()
+    ensures table { (t u : Table) (image : List ℕ) (at : ℕ) → IsConfigurationTable t image at → IsConfigurationTable u image at → t ≡ u }
+    ensures tables { (image : List ℕ) (t u : Tables) → Describes image t → Describes image u → t ≡ u }
+{}
+
+/// An image has at most one first fault.
+pub fn first_fault_is_one()
+    ensures { (image : List ℕ) (k j : ℕ) (why other : Reason) → IsFirstFault image k why → IsFirstFault image j other → (k ≡ j) × (why ≡ other) }
+{}
+
+/// Every image has no floating pointer at a place of the search, describes tables, or has a first fault.
+pub fn image_is_described_or_refused()
+    ensures { (image : List ℕ) → HasNoPointer image ⊎ (IsDescribed image ⊎ HasFirstFault image) }
+{}
+
+/// The first fault of an image lies in it.
+pub fn first_fault_lies_inside()
+    ensures { (image : List ℕ) (k : ℕ) (why : Reason) → IsFirstFault image k why → k < length image }
+{}
+
+/// Where an image describes tables, no fault stands at their pointer, and so none is the first.
+pub fn described_image_has_no_fault()
+    ensures none_stands { (image : List ℕ) (t : Tables) (k : ℕ) (why : Reason) → Describes image t → ¬ HasFaultAt image t.at k why }
+    ensures none_first { (image : List ℕ) (t : Tables) (k : ℕ) (why : Reason) → Describes image t → ¬ IsFirstFault image k why }
+{}
+
+/// Tables that an image of bytes describes are well formed, their fields fit, and their floating pointer
+/// lies below 4 GiB.
+pub fn described_tables_are_well_formed()
+    ensures well_formed { (image : List ℕ) (tables : Tables) → IsByteList image → Describes image tables → IsWellFormed tables }
+    ensures values { (image : List ℕ) (tables : Tables) → IsByteList image → Describes image tables → IsTablesValue tables }
+    ensures below_4_gib { (image : List ℕ) (tables : Tables) → IsByteList image → Describes image tables → tables.at < 2 ^ 32 }
+{}
+
+/// The canonical form is canonical and its own canonical form. Canonical tables are theirs. Its fields
+/// fit where those of the tables do, and it has a place in an image exactly where the tables have.
+pub fn canonical_form_is_canonical()
+    ensures canonical { (tables : Tables) → IsCanonical (canonical_of tables) }
+    ensures twice { (tables : Tables) → canonical_of (canonical_of tables) ≡ canonical_of tables }
+    ensures unchanged { (tables : Tables) → IsTablesValue tables → IsCanonical tables → canonical_of tables ≡ tables }
+    ensures values { (tables : Tables) → IsTablesValue tables → IsTablesValue (canonical_of tables) }
+    ensures fits { (tables : Tables) → FitsInImage (canonical_of tables) ↔ FitsInImage tables }
+{}

@@ -1,5 +1,0 @@
-use Rattle.mpt_spec.proofs.Judgment.{image-judged}
-use Rattle.mpt_spec.proofs.laws.image_is_described_or_refused.Goals as goal
-
-pub returns : goal.returns
-returns c = image-judged

@@ -1,5 +1,0 @@
-use Rattle.mpt_spec.proofs.WrittenLemmas.{IsFloatingPointer-written}
-use Rattle.mpt_spec.proofs.laws.written_pointer_is_there.Goals as goal
-
-pub returns : goal.returns
-returns c = IsFloatingPointer-written
