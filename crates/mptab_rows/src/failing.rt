@@ -61,6 +61,17 @@ fn top_call(rt: HostRuntime) -> Result<(), Fail> {
     Ok(())
 }
 
+/// For runs outside the gate, in each of which one allocation fails: this test alone accepts status 9. Where
+/// its own image or words wanted the memory, it ends with that error.
+#[test]
+fn want_of_memory(rt: HostRuntime) -> Result<(), Fail> {
+    let mut shelf = small_board(rt.alloc(), 0)?;
+    let answer = answer_of(rt.alloc(), &["show", NAME], &mut shelf, 0)?;
+    let refused = answer.is(9, b"mptab: no memory\n");
+    assert!(rt; refused || answer.is(0, LISTING.as_bytes()));
+    Ok(())
+}
+
 /// More calls than the shelf or the sink has in any of these runs.
 const MANY: u64 = 64;
 
