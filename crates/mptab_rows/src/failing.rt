@@ -1,0 +1,159 @@
+//! Words that are no form, files that aren't there, and calls of shelf and sink that fail one by one.
+
+use crate::board::{HEAD, board_with};
+use crate::harness::{
+    Answer, NAME, POINTER, ROOM, SMALL_POINTER, TABLE, WORD, answer_of, image_with, shelf_with,
+    words_of,
+};
+use mpt_base::{MemShelf, MemSink};
+use mptab_calls::run;
+use std::alloc::Global;
+use std::test::Fail;
+
+/// The listing of the board with one processor, whose pointer is at 500h.
+const LISTING: &str = "mptable 1
+pointer at 00000500 table 00000510 revision 04 features 0000000000
+header revision 04 oem \"MPTAB   \" product \"BOARD       \" oemtable 00000000 oemsize 0000 local FEE00000 reserved 00
+processor id 00 version 10 flags 03 signature 00000520 features 000001BF reserved 0000000000000000
+end
+";
+
+const USAGE: &str = "mptab: usage\n";
+
+/// Words, and the status and text that answer them, where no file but the board's is there.
+const WORDS: &[(&[&str], u8, &str)] = &[
+    (&[], 2, USAGE),
+    (&["show"], 2, USAGE),
+    (&["show", NAME, NAME], 2, USAGE),
+    (&["Show", NAME], 2, USAGE),
+    (&["show ", NAME], 2, USAGE),
+    (&["", NAME], 2, USAGE),
+    (&[NAME, "show"], 2, USAGE),
+    (&["show", ""], 3, "mptab: no file \n"),
+    (&["show", "x"], 3, "mptab: no file x\n"),
+    (&["show", NAME], 0, LISTING),
+];
+
+/// A shelf with the board's image, of which a call fails; 0 is none. The image ends with the table.
+fn small_board(alloc: Global, failing: u64) -> Result<MemShelf, Fail> {
+    let image = image_with(alloc, 0x550, &[WORD, SMALL_POINTER, (0x510, TABLE)])?;
+    shelf_with(alloc, image.as_slice(), failing)
+}
+
+#[test]
+fn words(rt: HostRuntime) -> Result<(), Fail> {
+    for (n, (words, status, text)) in WORDS.iter().enumerate() {
+        let mut shelf = small_board(rt.alloc(), 0)?;
+        let answer = answer_of(rt.alloc(), words, &mut shelf, 0)?;
+        assert!(rt; answer.is(*status, text.as_bytes()), "row {n}");
+    }
+    Ok(())
+}
+
+#[test]
+fn top_call(rt: HostRuntime) -> Result<(), Fail> {
+    let mut shelf = small_board(rt.alloc(), 0)?;
+    let mut sink = MemSink::new(rt.alloc(), ROOM)?;
+    let words = words_of(rt.alloc(), &["show", NAME])?;
+    let status = run(&rt, rt.alloc(), words.as_slice(), &mut shelf, &mut sink);
+    assert_eq!(rt; status, 0);
+    assert_eq!(rt; sink.bytes(), LISTING.as_bytes());
+    Ok(())
+}
+
+/// For runs outside the gate, in each of which one allocation fails: this test alone accepts status 9. Where
+/// its own image or words wanted the memory, it ends with that error.
+#[test]
+fn want_of_memory(rt: HostRuntime) -> Result<(), Fail> {
+    let mut shelf = small_board(rt.alloc(), 0)?;
+    let answer = answer_of(rt.alloc(), &["show", NAME], &mut shelf, 0)?;
+    let refused = answer.is(9, b"mptab: no memory\n");
+    assert!(rt; refused || answer.is(0, LISTING.as_bytes()));
+    Ok(())
+}
+
+/// More calls than the shelf or the sink has in any of these runs.
+const MANY: u64 = 64;
+
+/// The answer of `show` to the board in an image of 1 MiB, where a call of the shelf fails.
+fn board_answer(alloc: Global, failing: u64) -> Result<Answer, Fail> {
+    let image = image_with(alloc, 0x100000, &[POINTER, (0xF0010, TABLE)])?;
+    let mut shelf = shelf_with(alloc, image.as_slice(), failing)?;
+    answer_of(alloc, &["show", NAME], &mut shelf, 0)
+}
+
+/// Calls of the shelf fail one by one, until a run meets no failure and is accepted; the number of calls.
+fn failing_calls(alloc: Global) -> Result<u64, Fail> {
+    for call in 1..MANY {
+        let answer = board_answer(alloc, call)?;
+        if answer.status == 0 {
+            return Ok(call - 1);
+        }
+        if !answer.is(4, b"mptab: cannot read board.img\n") {
+            return Err("a failed call has another answer".into());
+        }
+    }
+    Err("each run meets a failure".into())
+}
+
+#[test]
+fn calls_of_the_shelf(rt: HostRuntime) -> Result<(), Fail> {
+    let calls = failing_calls(rt.alloc())?;
+    assert!(rt; calls >= 3, "the third call is inside the reading");
+    Ok(())
+}
+
+/// Whether a run whose put failed ended with status 5 and with less than the text.
+fn is_cut(answer: &Answer, text: &[u8]) -> bool {
+    answer.status == 5 && text.starts_with(answer.text.as_slice()) && answer.text.len() < text.len()
+}
+
+/// Puts of the sink fail one by one, until a run meets no failure and gives the text; the number of puts.
+fn failing_puts(alloc: Global, words: &[&str], image: &[u8], text: &[u8]) -> Result<u64, Fail> {
+    for put in 1..MANY {
+        let mut shelf = shelf_with(alloc, image, 0)?;
+        let answer = answer_of(alloc, words, &mut shelf, put)?;
+        if answer.text.as_slice() == text {
+            return Ok(put - 1);
+        }
+        if !is_cut(&answer, text) {
+            return Err("a failed put has another answer".into());
+        }
+    }
+    Err("each run meets a failure".into())
+}
+
+#[test]
+fn puts_of_the_sink(rt: HostRuntime) -> Result<(), Fail> {
+    let image = image_with(rt.alloc(), 0x550, &[WORD, SMALL_POINTER, (0x510, TABLE)])?;
+    for (words, _, text) in WORDS {
+        let puts = failing_puts(rt.alloc(), words, image.as_slice(), text.as_bytes())?;
+        assert!(rt; puts > 0, "a put is made");
+    }
+    Ok(())
+}
+
+/// 200 buses with their listing, which is longer than a piece of 4,096 bytes.
+fn many_buses(alloc: Global) -> Result<(Vec<u8>, Vec<u8>), Fail> {
+    let mut base = Vec::new(alloc);
+    let mut text = Vec::from_slice(alloc, HEAD.as_bytes())?;
+    for _ in 0..200 {
+        base.extend_from_slice(b"\x01\x07ISA   ")?;
+        text.extend_from_slice(b"bus id 07 name \"ISA   \"\n")?;
+    }
+    text.extend_from_slice(b"end\n")?;
+    Ok((board_with(alloc, base.as_slice(), 200, &[])?, text))
+}
+
+#[test]
+fn puts_of_a_long_text(rt: HostRuntime) -> Result<(), Fail> {
+    let (image, text) = many_buses(rt.alloc())?;
+    let puts = failing_puts(
+        rt.alloc(),
+        &["show", NAME],
+        image.as_slice(),
+        text.as_slice(),
+    )?;
+    assert_eq!(rt; puts, 2, "pieces of 4,096 bytes");
+    Ok(())
+}

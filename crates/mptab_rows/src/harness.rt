@@ -1,0 +1,133 @@
+//! What every theme stands on: images made of pieces, and the answer of the top call to them.
+
+use mpt_base::{MemShelf, MemSink};
+use mptab_calls::run_still;
+use std::alloc::Global;
+use std::test::Fail;
+
+/// The name under which an image lies on the shelf.
+pub(crate) const NAME: &str = "board.img";
+
+/// The room of a sink: more than any text of these rows.
+pub(crate) const ROOM: usize = 65536;
+
+/// Bytes and their place in an image. What passes the image's end is left out.
+pub(crate) type Piece = (usize, &'static [u8]);
+
+/// The pointer of the board with one processor, at F0000h.
+pub(crate) const POINTER: Piece = (
+    0xF0000,
+    b"_MP_\x10\x00\x0F\x00\x01\x04\x81\x00\x00\x00\x00\x00",
+);
+
+/// The word that names 500h as the start of the EBDA.
+pub(crate) const WORD: Piece = (0x40E, b"\x50\x00");
+
+/// The pointer of the same board at 500h, to a table at 510h.
+pub(crate) const SMALL_POINTER: Piece = (
+    0x500,
+    b"_MP_\x10\x05\x00\x00\x01\x04\x8B\x00\x00\x00\x00\x00",
+);
+
+/// The table of the board with one processor: 64 bytes, whose sum is 0.
+pub(crate) const TABLE: &[u8] = b"PCMP\x40\x00\x04\x99MPTAB   BOARD       \
+\x00\x00\x00\x00\x00\x00\x01\x00\x00\x00\xE0\xFE\x00\x00\x00\x00\
+\x00\x00\x10\x03\x20\x05\x00\x00\xBF\x01\x00\x00\x00\x00\x00\x00\x00\x00\x00\x00";
+
+/// One image, and what `show` answers to it.
+pub(crate) struct Row {
+    /// Why the answer is what it is.
+    pub(crate) name: &'static str,
+    /// The image's length; it is zero but for the pieces, of which a later one stands over an earlier.
+    pub(crate) size: usize,
+    pub(crate) pieces: &'static [Piece],
+    pub(crate) status: u8,
+    pub(crate) text: &'static str,
+}
+
+/// A status, and what was written.
+#[derive(Drop)]
+pub(crate) struct Answer {
+    pub(crate) status: u8,
+    pub(crate) text: Vec<u8>,
+}
+
+impl Answer {
+    /// Whether it is this status with this text.
+    pub(crate) fn is(&self, status: u8, text: &[u8]) -> bool {
+        self.status == status && self.text.as_slice() == text
+    }
+}
+
+/// The image of these pieces.
+pub(crate) fn image_with(alloc: Global, size: usize, pieces: &[Piece]) -> Result<Vec<u8>, Fail> {
+    let mut image = vec![in alloc; 0; size]?;
+    for (at, bytes) in pieces {
+        put(&mut image, *at, bytes);
+    }
+    Ok(image)
+}
+
+/// Writes bytes at a place. What passes the end is left out.
+pub(crate) fn put(image: &mut [u8], at: usize, bytes: &[u8]) {
+    if let Some(rest) = image.get_mut(at..) {
+        for (cell, byte) in rest.iter_mut().zip(bytes.iter()) {
+            *cell = *byte;
+        }
+    }
+}
+
+/// A shelf with this one image, of which the call of this number fails; 0 is none.
+pub(crate) fn shelf_with(alloc: Global, image: &[u8], failing: u64) -> Result<MemShelf, Fail> {
+    let mut shelf = MemShelf::new(alloc);
+    shelf.add(NAME, image)?;
+    shelf.fail(failing)?;
+    Ok(shelf)
+}
+
+/// These words, as the top call takes them.
+pub(crate) fn words_of(alloc: Global, words: &[&str]) -> Result<Vec<String>, Fail> {
+    let mut owned = Vec::new(alloc);
+    for word in words {
+        owned.push(String::from_str(alloc, word)?)?;
+    }
+    Ok(owned)
+}
+
+/// The answer to these words. The put of this number fails; 0 is none.
+pub(crate) fn answer_of(
+    alloc: Global,
+    words: &[&str],
+    shelf: &mut MemShelf,
+    failing: u64,
+) -> Result<Answer, Fail> {
+    let owned = words_of(alloc, words)?;
+    let mut sink = MemSink::new(alloc, ROOM)?;
+    sink.fail(failing)?;
+    let status = run_still(alloc, owned.as_slice(), shelf, &mut sink);
+    let text = Vec::from_slice(alloc, sink.bytes())?;
+    Ok(Answer { status, text })
+}
+
+/// The answer of `show` to an image, where no call fails.
+pub(crate) fn shown(alloc: Global, image: &[u8]) -> Result<Answer, Fail> {
+    let mut shelf = shelf_with(alloc, image, 0)?;
+    answer_of(alloc, &["show", NAME], &mut shelf, 0)
+}
+
+/// Whether `show` answers as the row says.
+fn is_answered(alloc: Global, row: &Row) -> Result<bool, Fail> {
+    let image = image_with(alloc, row.size, row.pieces)?;
+    let answer = shown(alloc, image.as_slice())?;
+    Ok(answer.is(row.status, row.text.as_bytes()))
+}
+
+/// The name of the first row that has another answer.
+pub(crate) fn first_wrong(alloc: Global, rows: &[Row]) -> Result<Option<&'static str>, Fail> {
+    for row in rows {
+        if !is_answered(alloc, row)? {
+            return Ok(Some(row.name));
+        }
+    }
+    Ok(None)
+}
