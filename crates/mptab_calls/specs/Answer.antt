@@ -9,7 +9,8 @@
 --     texts_of words                     the texts of the words
 --     Answers ..                         what is due was delivered
 --     AnswersWhole ..                    the answer of the walk was given whole
-use Rattle.std.specs.Prelude.{◌≡◌, ◌≤◌, ◌<◌, ℕ, List, [], ◌∷◌, length, map, string_bytes, String, Option, Some, None, IfSome, codes, ⊤, ◌⊎◌}
+--     AsksAtMost ..                      no byte was asked for that the walk doesn't need, and none twice
+use Rattle.std.specs.Prelude.{◌≡◌, ◌≤◌, ◌<◌, ℕ, ◌+◌, List, [], ◌∷◌, length, map, string_bytes, String, Option, Some, None, IfSome, codes, ⊤, ◌⊎◌}
 use Rattle.std.specs.Global.{Global}
 use Rattle.mpt_base.specs.Outside.{Files, Appends, AppendsPrefix}
 use Rattle.mpt_base.specs.declared.fault.Reason.{Reason}
@@ -103,3 +104,16 @@ IsWhole result status text before after = ((result ≡ status) × Appends before
 abbrev pub AnswersWhole : List (List ℕ) → Option Files → ℕ → Option (List ℕ) → Option (List ℕ) → Type 0
 AnswersWhole words told result before after =
     IfSome told (λ files. (status : ℕ) (text : List ℕ) → IsAnswer words (Some files) status text → IsWhole result status text before after)
+
+-- at most as many bytes were asked for as a file has, and none where it isn't there or passes its limit
+abbrev pub AsksForFile : Option (List ℕ) → ℕ → ℕ → ℕ → Type 0
+AsksForFile None limit before after = after ≡ before
+AsksForFile (Some bytes) limit before after = (after ≤ before + length bytes) × (limit < length bytes → after ≡ before)
+
+-- at most the limit of bytes was asked for, and where the files are told, what the file of that name lets
+abbrev pub AsksOnce : Option Files → List ℕ → ℕ → ℕ → ℕ → Type 0
+AsksOnce told name limit before after = (after ≤ before + limit) × IfSome told (λ files. AsksForFile (files name) limit before after)
+
+-- words that are no listed form ask for nothing, and those that name a file ask for it once
+abbrev pub AsksAtMost : List (List ℕ) → Option Files → ℕ → ℕ → Type 0
+AsksAtMost words told before after = (IsNoForm words × (after ≡ before)) ⊎ ((name : List ℕ) × IsShow words name × AsksOnce told name image_limit before after)

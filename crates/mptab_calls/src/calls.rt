@@ -3,7 +3,7 @@
 
 ghost use Rattle.std.specs.Prelude.{◌≡◌, ◌⊎◌, MatchOption};
 ghost use Rattle.mpt_base.specs.Outside.{Rose};
-ghost use Rattle.mptab_calls.specs.Answer.{IsNoForm, IsShow, texts_of, Answers, AnswersWhole};
+ghost use Rattle.mptab_calls.specs.Answer.{IsNoForm, IsShow, texts_of, Answers, AnswersWhole, AsksAtMost};
 ghost use Rattle.mptab_calls.specs.Causes.{
   NamesFile,
   IsAbsent,
@@ -40,6 +40,8 @@ fn walk<S: Shelf, O: Sink>(alloc: Global, words: &[String], shelf: &mut S, out: 
     ensures missing { result ≡ 3 → Rose (S.misses shelf.old) (S.misses shelf.new) }
     ensures unread { result ≡ 4 → Rose (S.faults shelf.old) (S.faults shelf.new) }
     ensures unwritten { result ≡ 5 → Rose (O.faults out.old) (O.faults out.new) }
+    ensures asks { AsksAtMost (texts_of words.now) (S.files shelf.old)
+        (S.asked shelf.old) (S.asked shelf.new) }
 {
     match shown_image(words) {
         Some(name) => show(alloc, name, shelf, out),
@@ -84,6 +86,10 @@ pub fn run_still<S: Shelf, O: Sink>(
         → ¬ Rose (O.faults out.old) (O.faults out.new)
         → AnswersWhole (texts_of words.now) (S.files shelf.old) result
         (O.written out.old) (O.written out.new) }
+
+    // Nothing is read that isn't needed, and nothing twice, failed reads included.
+    ensures asks { AsksAtMost (texts_of words.now) (S.files shelf.old)
+        (S.asked shelf.old) (S.asked shelf.new) }
 {
     walk(alloc, words, shelf, out)
 }
@@ -122,6 +128,10 @@ pub fn run<R: Threads + Wait + Sync, S: Shelf, O: Sink>(
         → ¬ Rose (O.faults out.old) (O.faults out.new)
         → AnswersWhole (texts_of words.now) (S.files shelf.old) result
         (O.written out.old) (O.written out.new) }
+
+    // Nothing is read that isn't needed, and nothing twice, failed reads included.
+    ensures asks { AsksAtMost (texts_of words.now) (S.files shelf.old)
+        (S.asked shelf.old) (S.asked shelf.new) }
 {
     let _ = rt;
     run_still(alloc, words, shelf, out)

@@ -1,8 +1,8 @@
 //! The reading of a whole file from a shelf: its size, its limit, then its bytes in pieces.
 
-ghost use Rattle.std.specs.Prelude.{◌≡◌, ◌≤◌, ◌<◌, ◌^◌, length, Some, Err, OnOk, OnErr, IfOk, IfErr, vec_len};
+ghost use Rattle.std.specs.Prelude.{◌≡◌, ◌≤◌, ◌<◌, ◌^◌, ◌+◌, length, Some, Err, OnOk, OnErr, IfOk, IfErr, vec_len};
 ghost use Rattle.mpt_base.specs.Outside.{Rose, IsSizeTold};
-ghost use Rattle.mptab_calls.specs.Answer.{Holds};
+ghost use Rattle.mptab_calls.specs.Answer.{Holds, AsksOnce};
 ghost use Rattle.mptab_calls.specs.File.{IsCauseOf};
 
 use mpt_base::{Failed, Shelf};
@@ -39,6 +39,8 @@ pub(crate) fn read_file<S: Shelf>(
         → Rose (S.misses shelf.old) (S.misses shelf.new) }
     ensures unread { result ≡ Err FileFailure.Unread
         → Rose (S.faults shelf.old) (S.faults shelf.new) }
+    ensures asks { AsksOnce (S.files shelf.old) name.now limit
+        (S.asked shelf.old) (S.asked shelf.new) }
 {
     let size = match shelf.size(name) {
         Ok(Some(size)) => size,
@@ -70,6 +72,8 @@ fn fill<S: Shelf>(shelf: &mut S, name: &str, buf: &mut [u8]) -> Result<(), Faile
     ensures err { OnErr result (Rose (S.faults shelf.old) (S.faults shelf.new)) }
     ensures faults_never_fall { S.faults shelf.old ≤ S.faults shelf.new }
     ensures misses_never_fall { S.misses shelf.old ≤ S.misses shelf.new }
+    ensures files_stay { S.files shelf.new ≡ S.files shelf.old }
+    ensures asks { S.asked shelf.new ≤ S.asked shelf.old + length buf.old }
 {
     let len = buf.len();
     let mut at = 0;

@@ -3,7 +3,7 @@
 ghost use Rattle.std.specs.Prelude.{◌≡◌, ℕ, List};
 ghost use Rattle.mpt_base.specs.Outside.{Rose};
 ghost use Rattle.mptab_calls.specs.Texts.{too_large_line};
-ghost use Rattle.mptab_calls.specs.Answer.{IsImageDue, IsShowDue, IsDelivered};
+ghost use Rattle.mptab_calls.specs.Answer.{IsImageDue, IsShowDue, IsDelivered, image_limit, AsksOnce};
 
 use crate::delivery::{deliver_line, deliver_text};
 use crate::file::{FileFailure, read_file};
@@ -24,6 +24,8 @@ pub(crate) fn show<S: Shelf, O: Sink>(alloc: Global, name: &str, shelf: &mut S, 
     ensures missing { result ≡ 3 → Rose (S.misses shelf.old) (S.misses shelf.new) }
     ensures unread { result ≡ 4 → Rose (S.faults shelf.old) (S.faults shelf.new) }
     ensures unwritten { result ≡ 5 → Rose (O.faults out.old) (O.faults out.new) }
+    ensures asks { AsksOnce (S.files shelf.old) name.now image_limit
+        (S.asked shelf.old) (S.asked shelf.new) }
 {
     match read_file(alloc, shelf, name, IMAGE_LIMIT) {
         Ok(image) => show_image(alloc, image.as_slice(), out),

@@ -10,6 +10,7 @@ loop-at-preserved g c =
       files = c.in_ok-read_at.ensures.files_stay ∙ c.loop-at.invariant.files;
       faults = omega arith;
       misses = omega arith;
+      asked = omega arith;
       within = omega arith;
       filled = IsFilledTo-piece (g.S.Shelf.files c.args.shelf.now) c.args.name.now c.loop-at.at c.min-end.result (c.min-end.result - c.loop-at.at) c.loop-at.buf c.read_at.new.buf (omega arith) (omega arith) c.loop-at.invariant.filled told;
     }

@@ -1,4 +1,4 @@
-use Rattle.std.proofs.Common.{◌≡◌, ◌≤◌, ◌-◌, length}
+use Rattle.std.proofs.Common.{◌≡◌, ◌≤◌, ◌+◌, ◌-◌, length}
 use Rattle.mptab_calls.specs.File.{IsFilledTo}
 use Rattle.mptab_calls.proofs.file.fill.Given as goal
 
@@ -7,6 +7,7 @@ invariant-loop-at g l = record {
   files : g.S.Shelf.files l.shelf ≡ g.S.Shelf.files l.initial.shelf;
   faults : g.S.Shelf.faults l.initial.shelf ≤ g.S.Shelf.faults l.shelf;
   misses : g.S.Shelf.misses l.initial.shelf ≤ g.S.Shelf.misses l.shelf;
+  asked : g.S.Shelf.asked l.shelf ≤ g.S.Shelf.asked l.initial.shelf + l.at;
   within : l.at ≤ length l.initial.buf;
   filled : IsFilledTo (g.S.Shelf.files l.initial.shelf) l.name l.at l.buf;
 }
