@@ -1,0 +1,14 @@
+//! Plain programs beside the definitions that compute: the bytes of entries, tables and floating
+//! pointers, and the places of the search (MultiProcessor Specification 1.4, sections 4.1 to 4.4).
+//! Worked cases can be run against a definition by them. They are kept slow on purpose, and each does
+//! what its definition says, in its order; a faster body keeps the contract.
+#![tactic(auto)]
+
+mod checksum;
+mod entries;
+mod places;
+mod pointing;
+
+pub use entries::{spell_base, spell_ext};
+pub use places::search_places;
+pub use pointing::spell_pointer;
