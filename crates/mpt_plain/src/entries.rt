@@ -1,7 +1,7 @@
 //! The bytes of entries (MultiProcessor Specification 1.4, sections 4.3 and 4.4).
 
 ghost use Rattle.std.specs.Prelude.{◌≡◌, ◌++◌, IfOk, OnOk};
-ghost use Rattle.std.specs.List.{flat_map};
+ghost use Rattle.std.specs.Int.{to_le_bytes, w32, w64};
 ghost use Rattle.mpt_spec.specs.Image.{interrupt_bytes, base_bytes, ext_bytes};
 ghost use Rattle.mpt_spec.specs.Canonical.{IsLawfulExt};
 ghost use Rattle.mpt_spec.specs.declared.entry.Base.TheVariants as base;
@@ -51,8 +51,15 @@ fn push_processor(out: &mut Vec<u8>, entry: &Processor) -> Result<(), AllocError
     ensures { OnOk result (out.new.items ≡ out.old.items ++ base_bytes (base.Processor entry.now)) }
 {
     out.extend_from_slice(&[0, entry.apic, entry.version, entry.flags])?;
-    out.extend_from_slice(&entry.signature.to_le_bytes())?;
-    out.extend_from_slice(&entry.features.to_le_bytes())?;
+    push_processor_end(out, entry)
+}
+
+// The bytes of a processor entry from the signature on.
+fn push_processor_end(out: &mut Vec<u8>, entry: &Processor) -> Result<(), AllocError>
+    ensures { OnOk result (out.new.items ≡ out.old.items ++ (to_le_bytes w32 entry.now.signature ++ (to_le_bytes w32 entry.now.features ++ entry.now.reserved))) }
+{
+    push_u32(out, entry.signature)?;
+    push_u32(out, entry.features)?;
     out.extend_from_slice(&entry.reserved)
 }
 
@@ -96,8 +103,8 @@ fn push_space(out: &mut Vec<u8>, entry: &Space) -> Result<(), AllocError>
     ensures { OnOk result (out.new.items ≡ out.old.items ++ ext_bytes (ext.Space entry.now)) }
 {
     out.extend_from_slice(&[128, 20, entry.bus, entry.kind])?;
-    out.extend_from_slice(&entry.base.to_le_bytes())?;
-    out.extend_from_slice(&entry.length.to_le_bytes())
+    push_u64(out, entry.base)?;
+    push_u64(out, entry.length)
 }
 
 fn push_hierarchy(out: &mut Vec<u8>, entry: &Hierarchy) -> Result<(), AllocError>
@@ -121,4 +128,16 @@ fn push_opaque(out: &mut Vec<u8>, entry: &Opaque) -> Result<(), AllocError>
     let rest = entry.rest.as_slice();
     out.extend_from_slice(&[entry.kind, 2 + rest.len() as u8])?;
     out.extend_from_slice(rest)
+}
+
+fn push_u32(out: &mut Vec<u8>, number: u32) -> Result<(), AllocError>
+    ensures { OnOk result (out.new.items ≡ out.old.items ++ to_le_bytes w32 number) }
+{
+    out.extend_from_slice(&number.to_le_bytes())
+}
+
+fn push_u64(out: &mut Vec<u8>, number: u64) -> Result<(), AllocError>
+    ensures { OnOk result (out.new.items ≡ out.old.items ++ to_le_bytes w64 number) }
+{
+    out.extend_from_slice(&number.to_le_bytes())
 }
