@@ -103,6 +103,13 @@ fn push_space(out: &mut Vec<u8>, entry: &Space) -> Result<(), AllocError>
     ensures { OnOk result (out.new.items ≡ out.old.items ++ ext_bytes (ext.Space entry.now)) }
 {
     out.extend_from_slice(&[128, 20, entry.bus, entry.kind])?;
+    push_range(out, entry)
+}
+
+// The first address of a range and the number of its addresses.
+fn push_range(out: &mut Vec<u8>, entry: &Space) -> Result<(), AllocError>
+    ensures { OnOk result (out.new.items ≡ out.old.items ++ (to_le_bytes w64 entry.now.base ++ to_le_bytes w64 entry.now.length)) }
+{
     push_u64(out, entry.base)?;
     push_u64(out, entry.length)
 }
