@@ -8,7 +8,9 @@ mod checksum;
 mod entries;
 mod places;
 mod pointing;
+mod table;
 
 pub use entries::{spell_base, spell_ext};
 pub use places::search_places;
 pub use pointing::spell_pointer;
+pub use table::spell_table;

@@ -38,6 +38,7 @@ fn table_bytes(alloc: Global, table: &Table) -> Result<Vec<u8>, AllocError>
 }
 
 // The base table with this checksum, before this extended part.
+#[tactic(auto, using(crate::proofs::SizeLemmas::entries_below_bytes))]
 fn base_table(
     alloc: Global,
     table: &Table,
