@@ -4,12 +4,16 @@
 //! what its definition says, in its order; a faster body keeps the contract.
 #![tactic(auto)]
 
+mod canonical;
 mod checksum;
 mod entries;
 mod places;
 mod pointing;
 mod table;
+#[cfg(test)]
+mod tests;
 
+pub use canonical::{canonical_base, canonical_pointer};
 pub use entries::{spell_base, spell_ext};
 pub use places::search_places;
 pub use pointing::spell_pointer;
