@@ -12,7 +12,13 @@ pub fn canonical_pointer(pointer: Pointer) -> Pointer
     ensures { result ≡ canonical_pointer pointer }
 {
     Pointer {
-        features: [pointer.features[0], 64 * (pointer.features[1] / 64), 0, 0, 0],
+        features: [
+            pointer.features[0],
+            64 * (pointer.features[1] / 64),
+            0,
+            0,
+            0,
+        ],
         ..pointer
     }
 }

@@ -53,7 +53,14 @@ fn base_table(
     let base_len = (44 + entries.len()) as u16;
     let ext_len = ext_part.len() as u16;
     let mut out = Vec::new(alloc);
-    push_header(&mut out, table, base_len, ext_len, checksum, checksum_of(ext_part))?;
+    push_header(
+        &mut out,
+        table,
+        base_len,
+        ext_len,
+        checksum,
+        checksum_of(ext_part),
+    )?;
     out.extend_from_slice(entries.as_slice())?;
     Ok(out)
 }
@@ -120,15 +127,15 @@ fn push_end(
 {
     let count = table.base.as_slice().len() as u16;
     push_oem_table(out, table.oem_table, table.oem_size, count)?;
-    push_tail(out, table.local_address, ext_len, &[ext_checksum, table.reserved])
+    push_tail(
+        out,
+        table.local_address,
+        ext_len,
+        &[ext_checksum, table.reserved],
+    )
 }
 
-fn push_oem_table(
-    out: &mut Vec<u8>,
-    address: u32,
-    size: u16,
-    count: u16,
-) -> Result<(), AllocError>
+fn push_oem_table(out: &mut Vec<u8>, address: u32, size: u16, count: u16) -> Result<(), AllocError>
     ensures { OnOk result (out.new.items ≡ out.old.items ++ (to_le_bytes w32 address ++ (to_le_bytes w16 size ++ to_le_bytes w16 count))) }
 {
     out.extend_from_slice(&address.to_le_bytes())?;

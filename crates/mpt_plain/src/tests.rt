@@ -87,7 +87,10 @@ fn lists_the_places_of_a_short_image(rt: HostRuntime) -> Result<(), Fail> {
     let Ok(places) = search_places(rt.alloc(), image.as_slice()) else {
         panic!(rt; "out of memory");
     };
-    assert_eq!(rt; places.as_slice(), [0x500, 0x510, 0x520, 0x530, 0x540].as_slice());
+    assert_eq!(rt;
+        places.as_slice(),
+        [0x500, 0x510, 0x520, 0x530, 0x540].as_slice()
+    );
     Ok(())
 }
 

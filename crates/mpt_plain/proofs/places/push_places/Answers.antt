@@ -13,10 +13,12 @@ pub loop-paragraph-preserved : goal.loop-paragraph-preserved
 loop-paragraph-preserved c =
     let low = (c.args.area.from + 15) / 16 in
     let same : div_ceil c.args.area.from 16 ≡ low = omega arith in
-    let k = c.loop-paragraph.paragraph in
-    (omega (arith, c.loop-paragraph-test.true), multiples_more c.loop-paragraph.out.items c.args.out.now.items c.push.new.self.items low (k - low) (k + 1 - low) k
-        (omega (arith, same, c.div_ceil-paragraph.ensures, c.loop-paragraph.auto.paragraph)) (omega (arith, same, c.div_ceil-paragraph.ensures, c.loop-paragraph.auto.paragraph))
-        c.loop-paragraph.invariant.1 c.in_ok-push.ensures.items)
+    let k = c.loop-paragraph.paragraph in (
+      omega (arith, c.loop-paragraph-test.true),
+      multiples_more c.loop-paragraph.out.items c.args.out.now.items c.push.new.self.items low (k - low) (k + 1 - low) k
+          (omega (arith, same, c.div_ceil-paragraph.ensures, c.loop-paragraph.auto.paragraph)) (omega (arith, same, c.div_ceil-paragraph.ensures, c.loop-paragraph.auto.paragraph))
+          c.loop-paragraph.invariant.1 c.in_ok-push.ensures.items,
+    )
 
 pub returns : goal.returns
 returns c =
