@@ -7,6 +7,7 @@
 mod canonical;
 mod checksum;
 mod entries;
+mod order;
 mod places;
 mod pointing;
 mod table;
@@ -15,6 +16,7 @@ mod tests;
 
 pub use canonical::{canonical_base, canonical_pointer};
 pub use entries::{spell_base, spell_ext};
+pub use order::in_type_order;
 pub use places::search_places;
 pub use pointing::spell_pointer;
 pub use table::spell_table;
