@@ -4,7 +4,8 @@
 ghost use Rattle.std.specs.Prelude.{◌≡◌, IfOk, length, sum_by};
 ghost use Rattle.mpt_spec.specs.Entries.{base_length};
 
-use crate::{canonical_base, search_places, spell_pointer, spell_table};
+use crate::{canonical_base, in_type_order, search_places, spell_pointer, spell_table};
+use mpt_base::NoMemory;
 use mpt_spec::{Base, Bus, IntEntry, IoApic, Pointer, Processor, Sequence, Table};
 use std::alloc::{AllocError, Global};
 use std::test::Fail;
@@ -79,6 +80,19 @@ fn clears_reserved_bits(rt: HostRuntime) {
     assert_eq!(rt; canonical_base(entry), Base::Processor(lone(3, 0)));
 }
 
+#[test]
+fn puts_a_bus_behind_a_processor(rt: HostRuntime) {
+    let bus = Base::Bus(Bus {
+        id: 0,
+        name: *b"ISA   ",
+    });
+    let processor = Base::Processor(lone(3, 0));
+    let Ok(ordered) = in_type_order(rt.alloc(), &[bus, processor]) else {
+        panic!(rt; "out of memory");
+    };
+    assert_eq!(rt; ordered.as_slice(), [processor, bus].as_slice());
+}
+
 // The EBDA is at 500h, and the image ends in it.
 #[test]
 fn lists_the_places_of_a_short_image(rt: HostRuntime) -> Result<(), Fail> {
@@ -115,4 +129,75 @@ fn spells_a_table_of_one_processor(rt: HostRuntime) -> Result<(), Fail> {
     };
     assert_eq!(rt; bytes.as_slice(), TABLE.as_slice());
     Ok(())
+}
+
+// an interrupt entry without flags
+fn wire(kind: u8, bus: u8, irq: u8, dest: u8, pin: u8) -> IntEntry {
+    IntEntry {
+        kind,
+        flags: 0,
+        bus,
+        irq,
+        dest,
+        pin,
+    }
+}
+
+// a board of two processors, two buses and one I/O APIC
+fn usual(alloc: Global) -> Result<Vec<Base>, NoMemory>
+    ensures { IfOk result (λ entries. sum_by base_length entries.items ≡ 216) }
+{
+    let entries = [
+        Base::Processor(lone(3, 0)),
+        Base::Processor(lone(1, 0)),
+        Base::Bus(Bus {
+            id: 0,
+            name: *b"PCI   ",
+        }),
+        Base::Bus(Bus {
+            id: 1,
+            name: *b"ISA   ",
+        }),
+        Base::IoApic(IoApic {
+            id: 0,
+            version: 0x11,
+            flags: 1,
+            address: 0xFEC0_0000,
+        }),
+        Base::IoInt(wire(0, 0, 8, 0, 16)),
+        Base::IoInt(wire(3, 1, 0, 0, 0)),
+        Base::IoInt(wire(0, 1, 0, 0, 2)),
+        Base::IoInt(wire(0, 1, 1, 0, 1)),
+        Base::IoInt(wire(0, 1, 3, 0, 3)),
+        Base::IoInt(wire(0, 1, 4, 0, 4)),
+        Base::IoInt(wire(0, 1, 5, 0, 5)),
+        Base::IoInt(wire(0, 1, 6, 0, 6)),
+        Base::IoInt(wire(0, 1, 7, 0, 7)),
+        Base::IoInt(wire(0, 1, 8, 0, 8)),
+        Base::IoInt(wire(0, 1, 9, 0, 9)),
+        Base::IoInt(wire(0, 1, 10, 0, 10)),
+        Base::IoInt(wire(0, 1, 11, 0, 11)),
+        Base::IoInt(wire(0, 1, 12, 0, 12)),
+        Base::IoInt(wire(0, 1, 13, 0, 13)),
+        Base::IoInt(wire(0, 1, 14, 0, 14)),
+        Base::IoInt(wire(0, 1, 15, 0, 15)),
+        Base::LocalInt(wire(3, 1, 0, 0, 0)),
+        Base::LocalInt(wire(1, 1, 0, 0xFF, 1)),
+    ];
+    match Vec::from_array(alloc, entries) {
+        Ok(entries) => Ok(entries),
+        Err(_) => Err(NoMemory),
+    }
+}
+
+#[test]
+fn spells_a_usual_table_in_260_bytes(rt: HostRuntime) {
+    let Ok(entries) = usual(rt.alloc()) else {
+        panic!(rt; "out of memory");
+    };
+    let table = table(rt.alloc(), entries);
+    let Ok(bytes) = spell_table(rt.alloc(), &table) else {
+        panic!(rt; "out of memory");
+    };
+    assert_eq!(rt; bytes.len(), 260);
 }
