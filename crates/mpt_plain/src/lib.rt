@@ -4,8 +4,8 @@
 //! what its definition says, in its order; a faster body keeps the contract.
 #![tactic(auto)]
 
-mod canonical;
 mod checksum;
+mod clearing;
 mod entries;
 mod order;
 mod places;
@@ -13,10 +13,12 @@ mod pointing;
 mod table;
 #[cfg(test)]
 mod tests;
+mod whole;
 
-pub use canonical::{canonical_base, canonical_pointer};
+pub use clearing::{canonical_base, canonical_ext, canonical_pointer};
 pub use entries::{spell_base, spell_ext};
 pub use order::in_type_order;
 pub use places::search_places;
 pub use pointing::spell_pointer;
 pub use table::spell_table;
+pub use whole::canonical;

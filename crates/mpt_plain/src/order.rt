@@ -19,7 +19,7 @@ pub fn in_type_order(alloc: Global, entries: &[Base]) -> Result<Vec<Base>, NoMem
     }
 }
 
-fn ordered(alloc: Global, entries: &[Base]) -> Result<Vec<Base>, AllocError>
+pub(crate) fn ordered(alloc: Global, entries: &[Base]) -> Result<Vec<Base>, AllocError>
     ensures { IfOk result (λ ordered. ordered.items ≡ in_type_order entries.now) }
 {
     let mut out = Vec::new(alloc);

@@ -1,10 +1,10 @@
 //! Entries and floating pointers without their reserved bits (MultiProcessor Specification 1.4,
-//! sections 4.1 and 4.3). What is reserved is set to zero.
+//! sections 4.1, 4.3 and 4.4). What is reserved is set to zero.
 
 ghost use Rattle.std.specs.Prelude.{◌≡◌};
-ghost use Rattle.mpt_spec.specs.Canonical.{canonical_pointer, canonical_base};
+ghost use Rattle.mpt_spec.specs.Canonical.{canonical_pointer, canonical_base, canonical_ext};
 
-use mpt_spec::{Base, IntEntry, IoApic, Pointer, Processor};
+use mpt_spec::{Base, Ext, Hierarchy, IntEntry, IoApic, Modifier, Pointer, Processor};
 
 /// The floating pointer without its reserved bits: bits 0 to 5 of feature byte 2, and feature bytes 3
 /// to 5.
@@ -46,5 +46,24 @@ pub fn canonical_base(entry: Base) -> Base
             flags: e.flags % 16,
             ..e
         }),
+    }
+}
+
+/// An extended entry without its reserved bits.
+pub fn canonical_ext(entry: Ext) -> Ext
+    ensures { result ≡ canonical_ext entry }
+{
+    match entry {
+        Ext::Space(e) => Ext::Space(e),
+        Ext::Hierarchy(e) => Ext::Hierarchy(Hierarchy {
+            info: e.info % 2,
+            reserved: [0; 3],
+            ..e
+        }),
+        Ext::Modifier(e) => Ext::Modifier(Modifier {
+            flags: e.flags % 2,
+            ..e
+        }),
+        Ext::Opaque(e) => Ext::Opaque(e),
     }
 }
