@@ -1,7 +1,7 @@
 //! Plain programs beside the definitions that compute: the bytes of entries, tables and floating
-//! pointers, the places of the search, and the canonical form (MultiProcessor Specification 1.4, sections 4.1 to 4.4).
-//! Worked cases can be run against a definition by them. They are kept slow on purpose, and each does
-//! what its definition says, in its order; a faster body keeps the contract.
+//! pointers, the places of the search, and the canonical form (MultiProcessor Specification 1.4,
+//! sections 4.1 to 4.4). Worked cases can be run against a definition by them. They are kept slow on
+//! purpose, and each does what its definition says, in its order; a faster body keeps the contract.
 #![tactic(auto)]
 
 mod checksum;
