@@ -4,9 +4,14 @@
 ghost use Rattle.std.specs.Prelude.{◌≡◌, IfOk, length, sum_by};
 ghost use Rattle.mpt_spec.specs.Entries.{base_length};
 
-use crate::{canonical_base, in_type_order, search_places, spell_pointer, spell_table};
+use crate::{
+    canonical, canonical_base, in_type_order, search_places, spell_base, spell_ext, spell_pointer,
+    spell_table,
+};
 use mpt_base::NoMemory;
-use mpt_spec::{Base, Bus, IntEntry, IoApic, Pointer, Processor, Sequence, Table};
+use mpt_spec::{
+    Base, Body, Bus, Ext, Hierarchy, IntEntry, IoApic, Pointer, Processor, Sequence, Table, Tables,
+};
 use std::alloc::{AllocError, Global};
 use std::test::Fail;
 
@@ -200,4 +205,64 @@ fn spells_a_usual_table_in_260_bytes(rt: HostRuntime) {
         panic!(rt; "out of memory");
     };
     assert_eq!(rt; bytes.len(), 260);
+}
+
+#[test]
+fn spells_a_bus_and_a_bus_hierarchy(rt: HostRuntime) {
+    let bus = Base::Bus(Bus {
+        id: 7,
+        name: *b"ISA   ",
+    });
+    let hierarchy = Ext::Hierarchy(Hierarchy {
+        bus: 7,
+        info: 1,
+        parent: 0,
+        reserved: [0; 3],
+    });
+    let Ok(base) = spell_base(rt.alloc(), &bus) else {
+        panic!(rt; "out of memory");
+    };
+    let Ok(ext) = spell_ext(rt.alloc(), &hierarchy) else {
+        panic!(rt; "out of memory");
+    };
+    assert_eq!(rt; base.as_slice(), b"\x01\x07ISA   ".as_slice());
+    assert_eq!(rt;
+        ext.as_slice(),
+        b"\x81\x08\x07\x01\x00\x00\x00\x00".as_slice()
+    );
+}
+
+// the base entries of listed tables
+fn base_of(tables: &Tables) -> Option<&[Base]> {
+    match &tables.body {
+        Body::Listed(table) => Some(table.base.as_slice()),
+        Body::Default(_) => None,
+    }
+}
+
+#[test]
+fn makes_tables_canonical(rt: HostRuntime) -> Result<(), Fail> {
+    let bus = Base::Bus(Bus {
+        id: 0,
+        name: *b"ISA   ",
+    });
+    let entries = Vec::from_array(rt.alloc(), [bus, Base::Processor(lone(0xFF, 0xAA))])?;
+    let tables = Tables {
+        at: 0xF_0000,
+        pointer: Pointer {
+            address: 0x000F_0010,
+            revision: 4,
+            features: [0, 0xFF, 1, 1, 1],
+        },
+        body: Body::Listed(table(rt.alloc(), entries)),
+    };
+    let Ok(cleared) = canonical(rt.alloc(), tables) else {
+        panic!(rt; "out of memory");
+    };
+    assert_eq!(rt; cleared.pointer.features, [0, 0xC0, 0, 0, 0]);
+    let Some(base) = base_of(&cleared) else {
+        panic!(rt; "a listed table stays listed");
+    };
+    assert_eq!(rt; base, [Base::Processor(lone(3, 0)), bus].as_slice());
+    Ok(())
 }
