@@ -9,4 +9,4 @@ mod tests;
 
 pub use mpt_spec::{Area, Pointer};
 pub use reading::{pointer_at, read_pointer};
-pub use search::{areas, find};
+pub use search::{areas, find, find_in};

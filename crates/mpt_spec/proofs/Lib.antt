@@ -4,3 +4,6 @@ pub mod CallerLemmas
 pub mod TableLemmas
 pub mod FaultLemmas
 pub mod FirstFaultLemmas
+pub mod WindowLemmas
+pub mod TableWindowLemmas
+pub mod WellFormedTable

@@ -1,4 +1,6 @@
 pub mod Texts
-pub mod Answer
+pub mod Forms
+pub mod Commands
+pub mod Walk
 pub mod Causes
-pub mod File
+pub mod ReadAnswer

@@ -3,16 +3,9 @@
 
 ghost use Rattle.std.specs.Prelude.{◌≡◌, ◌⊎◌, MatchOption};
 ghost use Rattle.mpt_base.specs.Outside.{Rose};
-ghost use Rattle.mptab_calls.specs.Answer.{IsNoForm, IsShow, texts_of, Answers, AnswersWhole, AsksAtMost};
-ghost use Rattle.mptab_calls.specs.Causes.{
-  NamesFile,
-  IsAbsent,
-  IsTooLarge,
-  IsWithinLimit,
-  IsDescribed,
-  IsWithoutPointer,
-  IsFaulty,
-};
+ghost use Rattle.mptab_calls.specs.Forms.{Show, IsForm, IsStill, IsAny};
+ghost use Rattle.mptab_calls.specs.Walk.{IsNoForm, IsListed, texts_of, Answers, AnswersWhole, AsksAtMost};
+ghost use Rattle.mptab_calls.specs.Causes.{Cause};
 
 use crate::delivery::deliver_line;
 use crate::show::show;
@@ -24,8 +17,8 @@ use std::thread::Threads;
 
 // the image that the words name, where they are `show IMAGE`
 fn shown_image(words: &[String]) -> Option<&str>
-    ensures { MatchOption result (IsNoForm (texts_of words.now))
-        (λ name. IsShow (texts_of words.now) name.now) }
+    ensures { MatchOption result (IsNoForm IsStill (texts_of words.now))
+        (λ name. IsForm (Show name.now) (texts_of words.now)) }
 {
     match words {
         [word, name] if word.as_str() == "show" => Some(name.as_str()),
@@ -35,12 +28,13 @@ fn shown_image(words: &[String]) -> Option<&str>
 
 // the walk over words and files
 fn walk<S: Shelf, O: Sink>(alloc: Global, words: &[String], shelf: &mut S, out: &mut O) -> u8
-    ensures due { Answers (texts_of words.now) (S.files shelf.old) result
+    // Status and text are an answer of words and files, or say that a read failed or memory ran
+    // out.
+    ensures answer { Answers IsStill (S.files shelf.old)
+        (Rose (S.misses shelf.old) (S.misses shelf.new)) (Rose (S.faults shelf.old) (S.faults shelf.new))
+        (Rose (O.faults out.old) (O.faults out.new)) (texts_of words.now) result
         (O.written out.old) (O.written out.new) }
-    ensures missing { result ≡ 3 → Rose (S.misses shelf.old) (S.misses shelf.new) }
-    ensures unread { result ≡ 4 → Rose (S.faults shelf.old) (S.faults shelf.new) }
-    ensures unwritten { result ≡ 5 → Rose (O.faults out.old) (O.faults out.new) }
-    ensures asks { AsksAtMost (texts_of words.now) (S.files shelf.old)
+    ensures asks { AsksAtMost IsStill (S.files shelf.old) (texts_of words.now)
         (S.asked shelf.old) (S.asked shelf.new) }
 {
     match shown_image(words) {
@@ -62,33 +56,24 @@ pub fn run_still<S: Shelf, O: Sink>(
 ) -> u8
     // Status and text are an answer of words and files, or say that a read failed or memory ran
     // out.
-    ensures answer { Answers (texts_of words.now) (S.files shelf.old) result
+    ensures answer { Answers IsStill (S.files shelf.old)
+        (Rose (S.misses shelf.old) (S.misses shelf.new)) (Rose (S.faults shelf.old) (S.faults shelf.new))
+        (Rose (O.faults out.old) (O.faults out.new)) (texts_of words.now) result
         (O.written out.old) (O.written out.new) }
 
     // Each status has its cause.
-    ensures shown { result ≡ 0 → NamesFile (texts_of words.now) (S.files shelf.old) IsDescribed }
-    ensures usage { result ≡ 2 → IsNoForm (texts_of words.now) }
-    ensures only_usage { IsNoForm (texts_of words.now) → (result ≡ 2) ⊎ (result ≡ 5) }
-    ensures missing { result ≡ 3 → Rose (S.misses shelf.old) (S.misses shelf.new) }
-    ensures absent { result ≡ 3 → NamesFile (texts_of words.now) (S.files shelf.old) IsAbsent }
-    ensures unread { result ≡ 4 → Rose (S.faults shelf.old) (S.faults shelf.new) }
-    ensures unwritten { result ≡ 5 → Rose (O.faults out.old) (O.faults out.new) }
-    ensures no_pointer { result ≡ 6
-        → NamesFile (texts_of words.now) (S.files shelf.old) IsWithoutPointer }
-    ensures refused { result ≡ 7 → NamesFile (texts_of words.now) (S.files shelf.old) IsFaulty }
-    ensures no_memory { result ≡ 9
-        → NamesFile (texts_of words.now) (S.files shelf.old) IsWithinLimit }
-    ensures too_large { result ≡ 10
-        → NamesFile (texts_of words.now) (S.files shelf.old) IsTooLarge }
+    ensures cause { Cause IsStill (S.files shelf.old)
+        (Rose (S.misses shelf.old) (S.misses shelf.new)) (Rose (S.faults shelf.old) (S.faults shelf.new))
+        (Rose (O.faults out.old) (O.faults out.new)) (texts_of words.now) result }
 
-    // Where files are told and no call fails, the answer comes whole, unless memory runs out.
+    // Where no call fails, an answer comes whole, unless memory runs out.
     ensures complete { ¬ Rose (S.faults shelf.old) (S.faults shelf.new)
         → ¬ Rose (O.faults out.old) (O.faults out.new)
-        → AnswersWhole (texts_of words.now) (S.files shelf.old) result
+        → AnswersWhole IsStill (S.files shelf.old) (texts_of words.now) result
         (O.written out.old) (O.written out.new) }
 
-    // Nothing is read that isn't needed, and nothing twice, failed reads included.
-    ensures asks { AsksAtMost (texts_of words.now) (S.files shelf.old)
+    // No byte is asked for that the form doesn't need.
+    ensures asks { AsksAtMost IsStill (S.files shelf.old) (texts_of words.now)
         (S.asked shelf.old) (S.asked shelf.new) }
 {
     walk(alloc, words, shelf, out)
@@ -104,33 +89,24 @@ pub fn run<R: Threads + Wait + Sync, S: Shelf, O: Sink>(
 ) -> u8
     // Status and text are an answer of words and files, or say that a read failed or memory ran
     // out.
-    ensures answer { Answers (texts_of words.now) (S.files shelf.old) result
+    ensures answer { Answers IsAny (S.files shelf.old)
+        (Rose (S.misses shelf.old) (S.misses shelf.new)) (Rose (S.faults shelf.old) (S.faults shelf.new))
+        (Rose (O.faults out.old) (O.faults out.new)) (texts_of words.now) result
         (O.written out.old) (O.written out.new) }
 
     // Each status has its cause.
-    ensures shown { result ≡ 0 → NamesFile (texts_of words.now) (S.files shelf.old) IsDescribed }
-    ensures usage { result ≡ 2 → IsNoForm (texts_of words.now) }
-    ensures only_usage { IsNoForm (texts_of words.now) → (result ≡ 2) ⊎ (result ≡ 5) }
-    ensures missing { result ≡ 3 → Rose (S.misses shelf.old) (S.misses shelf.new) }
-    ensures absent { result ≡ 3 → NamesFile (texts_of words.now) (S.files shelf.old) IsAbsent }
-    ensures unread { result ≡ 4 → Rose (S.faults shelf.old) (S.faults shelf.new) }
-    ensures unwritten { result ≡ 5 → Rose (O.faults out.old) (O.faults out.new) }
-    ensures no_pointer { result ≡ 6
-        → NamesFile (texts_of words.now) (S.files shelf.old) IsWithoutPointer }
-    ensures refused { result ≡ 7 → NamesFile (texts_of words.now) (S.files shelf.old) IsFaulty }
-    ensures no_memory { result ≡ 9
-        → NamesFile (texts_of words.now) (S.files shelf.old) IsWithinLimit }
-    ensures too_large { result ≡ 10
-        → NamesFile (texts_of words.now) (S.files shelf.old) IsTooLarge }
+    ensures cause { Cause IsAny (S.files shelf.old)
+        (Rose (S.misses shelf.old) (S.misses shelf.new)) (Rose (S.faults shelf.old) (S.faults shelf.new))
+        (Rose (O.faults out.old) (O.faults out.new)) (texts_of words.now) result }
 
-    // Where files are told and no call fails, the answer comes whole, unless memory runs out.
+    // Where no call fails, an answer comes whole, unless memory runs out.
     ensures complete { ¬ Rose (S.faults shelf.old) (S.faults shelf.new)
         → ¬ Rose (O.faults out.old) (O.faults out.new)
-        → AnswersWhole (texts_of words.now) (S.files shelf.old) result
+        → AnswersWhole IsAny (S.files shelf.old) (texts_of words.now) result
         (O.written out.old) (O.written out.new) }
 
-    // Nothing is read that isn't needed, and nothing twice, failed reads included.
-    ensures asks { AsksAtMost (texts_of words.now) (S.files shelf.old)
+    // No byte is asked for that the form doesn't need.
+    ensures asks { AsksAtMost IsAny (S.files shelf.old) (texts_of words.now)
         (S.asked shelf.old) (S.asked shelf.new) }
 {
     let _ = rt;

@@ -3,7 +3,7 @@
 ghost use Rattle.std.specs.Prelude.{◌≡◌, ◌≢◌, ◌≤◌, map, OnOk, OnErr};
 ghost use Rattle.mpt_base.specs.Outside.{Rose, Appends, AppendsPrefix};
 ghost use Rattle.mpt_listing.specs.Listing.{line};
-ghost use Rattle.mptab_calls.specs.Answer.{IsDelivered};
+ghost use Rattle.mptab_calls.specs.Walk.{IsDelivered};
 
 use crate::status::CANNOT_WRITE;
 use mpt_base::{Failed, Sink};
@@ -48,8 +48,8 @@ pub(crate) fn put_line<O: Sink>(out: &mut O, parts: &[&[u8]]) -> Result<(), Fail
 
 /// Delivers a text. The status is the answer's, or that of a sink that failed.
 pub(crate) fn deliver_text<O: Sink>(out: &mut O, status: u8, text: &[u8]) -> u8
-    ensures delivered { IsDelivered result status text.now (O.written out.old) (O.written out.new) }
-    ensures unwritten { status ≢ 5 → result ≡ 5 → Rose (O.faults out.old) (O.faults out.new) }
+    ensures { IsDelivered (Rose (O.faults out.old) (O.faults out.new)) result status text.now
+        (O.written out.old) (O.written out.new) }
 {
     match put_text(out, text) {
         Ok(()) => status,
@@ -59,9 +59,8 @@ pub(crate) fn deliver_text<O: Sink>(out: &mut O, status: u8, text: &[u8]) -> u8
 
 /// Delivers a line of these parts, without taking memory.
 pub(crate) fn deliver_line<O: Sink>(out: &mut O, status: u8, parts: &[&[u8]]) -> u8
-    ensures delivered { IsDelivered result status (line (map (λ part. part.now) parts.now))
-        (O.written out.old) (O.written out.new) }
-    ensures unwritten { status ≢ 5 → result ≡ 5 → Rose (O.faults out.old) (O.faults out.new) }
+    ensures { IsDelivered (Rose (O.faults out.old) (O.faults out.new)) result status
+        (line (map (λ part. part.now) parts.now)) (O.written out.old) (O.written out.new) }
 {
     match put_line(out, parts) {
         Ok(()) => status,

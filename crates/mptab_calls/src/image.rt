@@ -1,16 +1,16 @@
 //! The answer of `show` to an image, as a status and a text.
 
-ghost use Rattle.std.specs.Prelude.{◌≡◌, map, IfOk};
+ghost use Rattle.std.specs.Prelude.{◌≡◌, map, IfOk, Err};
 ghost use Rattle.mpt_base.specs.Reason.{reason_number};
 ghost use Rattle.mpt_listing.specs.Listing.{line};
 ghost use Rattle.mpt_listing.specs.Part.{part_text};
 ghost use Rattle.mptab_calls.specs.Texts.{reason_name, fault_line};
-ghost use Rattle.mptab_calls.specs.Answer.{IsImageAnswer};
+ghost use Rattle.mptab_calls.specs.ReadAnswer.{IsTextOf};
 
 use crate::status::{DONE, NO_POINTER, REFUSED};
 use mpt_base::{Fault, NoMemory, Reason};
 use mpt_listing::{Part, print, push_line};
-use mpt_table::{Refusal, read};
+use mpt_table::{FileRefusal, Tables};
 use std::alloc::Global;
 
 /// A status and the text that goes with it.
@@ -20,30 +20,50 @@ pub(crate) struct ImageAnswer {
     pub(crate) text: Vec<u8>,
 }
 
+/// Why there is no answer to an image.
+#[derive(Clone, Copy, Debug, PartialEq, Eq)]
+pub(crate) enum ImageFailure {
+    /// The shelf failed.
+    Unread,
+    /// Memory ran out.
+    NoMemory,
+}
+
 /// The answer of `show` to an image.
-pub(crate) fn image_answer(alloc: Global, image: &[u8]) -> Result<ImageAnswer, NoMemory>
-    ensures { IfOk result (λ answer. IsImageAnswer image.now answer.status answer.text.items) }
+pub(crate) fn image_answer(
+    alloc: Global,
+    read: Result<Tables, FileRefusal>,
+) -> Result<ImageAnswer, ImageFailure>
+    ensures text { IfOk result (λ answer. IsTextOf read answer.status answer.text.items) }
+    ensures unread { result ≡ Err ImageFailure.Unread → read ≡ Err FileRefusal.Read }
 {
-    match read(alloc, image) {
+    match read {
         Ok(tables) => {
-            let text = print(alloc, &tables)?;
+            let Ok(text) = print(alloc, &tables) else {
+                return Err(ImageFailure::NoMemory);
+            };
             Ok(ImageAnswer { status: DONE, text })
         }
-        Err(Refusal::NoPointer) => {
-            let text = text_of(alloc, &[Part::Text(b"mptab: no floating pointer")])?;
+        Err(FileRefusal::NoPointer) => {
+            let Ok(text) = text_of(alloc, &[Part::Text(b"mptab: no floating pointer")]) else {
+                return Err(ImageFailure::NoMemory);
+            };
             Ok(ImageAnswer {
                 status: NO_POINTER,
                 text,
             })
         }
-        Err(Refusal::Fault(fault)) => {
-            let text = fault_text(alloc, fault)?;
+        Err(FileRefusal::Fault(fault)) => {
+            let Ok(text) = fault_text(alloc, fault) else {
+                return Err(ImageFailure::NoMemory);
+            };
             Ok(ImageAnswer {
                 status: REFUSED,
                 text,
             })
         }
-        Err(Refusal::NoMemory) => Err(NoMemory),
+        Err(FileRefusal::Read) => Err(ImageFailure::Unread),
+        Err(FileRefusal::NoMemory) => Err(ImageFailure::NoMemory),
     }
 }
 

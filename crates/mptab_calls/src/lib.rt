@@ -4,7 +4,6 @@
 
 mod calls;
 mod delivery;
-mod file;
 mod image;
 mod show;
 mod status;
