@@ -1,9 +1,13 @@
 -- What the reader by windows says of a file whose bytes may be told. Where they aren't, two windows need not agree.
 --     IfTold told name P           where the files are told, P holds of the bytes of the file of that name
---     IsWindowAreaOf size area     an area of the search in a file of this size
+--     IsTold told name P           the files are told, the file is there, and P holds of its bytes
+--     IsAreaIn size area           an area of the search in a file of this size
 --     IsFoundAmong ..              a floating pointer, the first of these places where the files are told
 --     area_bytes areas             the bytes of these areas
-use Rattle.std.specs.Prelude.{◌≡◌, ℕ, ◌+◌, ◌-◌, ◌%◌, ◌≤◌, ◌<◌, ◌^◌, ◌⊎◌, List, [], ◌∷◌, Option, None, Some, IfSome, ⊤}
+--     AnswersFileTables, AnswersNoPointer, AnswersFileFault    the answer, unless a read failed or memory ran out
+use Rattle.std.specs.Prelude.{◌≡◌, ℕ, ◌+◌, ◌-◌, ◌%◌, ◌≤◌, ◌<◌, ◌^◌, ◌⊎◌, List, [], ◌∷◌, Option, None, Some, IfSome, IsSomeAnd, Result, Ok, Err, ⊤}
+use Rattle.mpt_base.specs.declared.fault.Reason.{Reason}
+use Rattle.mpt_spec.specs.declared.tables.Tables.{Tables}
 use Rattle.std.specs.List.{AllByRecursion}
 use Rattle.mpt_base.specs.Bytes.{part}
 use Rattle.mpt_base.specs.Outside.{Files}
@@ -27,6 +31,7 @@ pub record IsAreaIn (size : ℕ) (area : Area) : Type 0 where
   pub inside : area.to ≤ size
   pub paragraph : (area.from % 16 ≡ 0) ⊎ (area.from ≡ area.to)
   pub low : area.to < 2 ^ 31
+  pub short : area.to - area.from ≤ 65536
 
 -- the bytes of these areas
 abbrev pub area_bytes : List Area → ℕ
@@ -58,3 +63,27 @@ IsFileCauseOf image _ = ⊤
 abbrev pub IsTableRefusal : FileRefusal → Type 0
 IsTableRefusal refusal.NoPointer = ⊥
 IsTableRefusal _ = ⊤
+
+-- the files are told, the file of that name is there, and P holds of its bytes
+abbrev pub IsTold : Option Files → List ℕ → (List ℕ → Type 0) → Type 0
+IsTold told name P = IsSomeAnd told (λ files. IsSomeAnd (files name) P)
+
+-- the answer is these tables, unless a read failed or memory ran out
+abbrev pub AnswersFileTables : Result Tables FileRefusal → Tables → Type 0
+AnswersFileTables (Ok found) tables = found ≡ tables
+AnswersFileTables (Err refusal.NoPointer) tables = ⊥
+AnswersFileTables (Err (refusal.Fault f)) tables = ⊥
+AnswersFileTables (Err _) tables = ⊤
+
+-- the answer is that there is no floating pointer, unless a read failed or memory ran out
+abbrev pub AnswersNoPointer : Result Tables FileRefusal → Type 0
+AnswersNoPointer (Ok found) = ⊥
+AnswersNoPointer (Err (refusal.Fault f)) = ⊥
+AnswersNoPointer (Err _) = ⊤
+
+-- the answer is the fault of this reason at this place, unless a read failed or memory ran out
+abbrev pub AnswersFileFault : Result Tables FileRefusal → ℕ → Reason → Type 0
+AnswersFileFault (Ok found) k why = ⊥
+AnswersFileFault (Err refusal.NoPointer) k why = ⊥
+AnswersFileFault (Err (refusal.Fault f)) k why = (f.at ≡ k) × (f.why ≡ why)
+AnswersFileFault (Err _) k why = ⊤

@@ -1,6 +1,6 @@
 //! The search for the floating pointer over windows of a file, one an area.
 
-ghost use Rattle.std.specs.Prelude.{◌≡◌, ℕ, ◌+◌, ◌-◌, ◌≤◌, ◌<◌, ◌^◌, ◌%◌, ◌⊎◌, length, Some, Err, IfOk, IfSome, IfNone, OnErr};
+ghost use Rattle.std.specs.Prelude.{◌≡◌, ◌≢◌, ℕ, ◌+◌, ◌-◌, ◌≤◌, ◌<◌, ◌^◌, ◌%◌, ◌⊎◌, length, Some, Err, IfOk, IfSome, IfNone, OnErr, OnOk};
 ghost use Rattle.std.specs.List.{flat_map, AllByRecursion};
 ghost use Rattle.mpt_base.specs.Bytes.{part};
 ghost use Rattle.mpt_base.specs.Outside.{Rose, IsSizeTold};
@@ -39,6 +39,7 @@ fn areas_from<S: Shelf>(
     ensures faults_never_fall { S.faults shelf.old ≤ S.faults shelf.new }
     ensures asks { S.asked shelf.new ≤ S.asked shelf.old + 4 }
     ensures unread { OnErr result (Rose (S.faults shelf.old) (S.faults shelf.new)) }
+    ensures unfailed { OnOk result (S.faults shelf.new ≡ S.faults shelf.old) }
     ensures told { IfOk result (λ areas. IfTold (S.files shelf.old) name.now
         (λ image. flat_map places_in areas.items ≡ search_places image)) }
     ensures areas { IfOk result (λ areas. AllByRecursion (IsAreaIn size) areas.items) }
@@ -91,6 +92,7 @@ fn area_from<S: Shelf>(
     ensures asks { S.asked shelf.new ≤ S.asked shelf.old + (area.to - area.from) }
     ensures unread { result ≡ Err WindowFailure.Unread
         → Rose (S.faults shelf.old) (S.faults shelf.new) }
+    ensures unfailed { result ≢ Err WindowFailure.Unread → S.faults shelf.new ≡ S.faults shelf.old }
     ensures some { IfOk result (λ found. IfSome found (λ f.
         IsFoundAmong (S.files shelf.old) name.now (places_in area) f.at f.pointer)) }
     ensures none { IfOk result (λ found. IfNone found (IfTold (S.files shelf.old) name.now
@@ -119,6 +121,7 @@ fn among_from<S: Shelf>(
     ensures asks { S.asked shelf.new ≤ S.asked shelf.old + area_bytes areas.now }
     ensures unread { result ≡ Err WindowFailure.Unread
         → Rose (S.faults shelf.old) (S.faults shelf.new) }
+    ensures unfailed { result ≢ Err WindowFailure.Unread → S.faults shelf.new ≡ S.faults shelf.old }
     ensures some { IfOk result (λ found. IfSome found (λ f.
         IsFoundAmong (S.files shelf.old) name.now (flat_map places_in areas.now) f.at f.pointer)) }
     ensures none { IfOk result (λ found. IfNone found (IfTold (S.files shelf.old) name.now
@@ -147,6 +150,7 @@ pub(crate) fn find_from<S: Shelf>(
     ensures asks { S.asked shelf.new ≤ S.asked shelf.old + 66564 }
     ensures unread { result ≡ Err WindowFailure.Unread
         → Rose (S.faults shelf.old) (S.faults shelf.new) }
+    ensures unfailed { result ≢ Err WindowFailure.Unread → S.faults shelf.new ≡ S.faults shelf.old }
     ensures some { IfOk result (λ found. IfSome found (λ f. IfTold (S.files shelf.old) name.now
         (λ image. IsFirstPointerAt image f.at × IsFloatingPointer f.pointer (part image f.at 16)))) }
     ensures none { IfOk result (λ found. IfNone found (IfTold (S.files shelf.old) name.now HasNoPointer)) }

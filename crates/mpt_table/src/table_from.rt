@@ -1,7 +1,7 @@
 //! The table over windows of a file: its header, then all of its bytes as an image of their own, in
 //! which it stands at 0.
 
-ghost use Rattle.std.specs.Prelude.{◌≡◌, ℕ, ◌+◌, ◌-◌, ◌≤◌, ◌<◌, ◌^◌, length, Some, Err, IfOk, IfErr};
+ghost use Rattle.std.specs.Prelude.{◌≡◌, ◌≢◌, ℕ, ◌+◌, ◌-◌, ◌≤◌, ◌<◌, ◌^◌, length, Some, Err, IfOk, IfErr};
 ghost use Rattle.mpt_base.specs.Outside.{Rose, IsSizeTold};
 ghost use Rattle.mpt_spec.specs.Table.{base_length_at, ext_length_at, IsConfigurationTable};
 ghost use Rattle.mpt_spec.specs.Canonical.{IsWellFormedTable};
@@ -46,6 +46,7 @@ fn table_bytes(header: &[u8], room: u64) -> usize
 // the refusal for which a window isn't there
 fn refusal_of(failure: WindowFailure) -> FileRefusal
     ensures read { result ≡ FileRefusal.Read → failure ≡ WindowFailure.Unread }
+    ensures unread { failure ≡ WindowFailure.Unread → result ≡ FileRefusal.Read }
     ensures fault { IfFaultOf result (λ f. ⊥) }
     ensures refusal { IsTableRefusal result }
 {
@@ -92,6 +93,7 @@ pub(crate) fn table_from<S: Shelf>(
     ensures faults_never_fall { S.faults shelf.old ≤ S.faults shelf.new }
     ensures asks { S.asked shelf.new ≤ S.asked shelf.old + 131114 }
     ensures unread { result ≡ Err FileRefusal.Read → Rose (S.faults shelf.old) (S.faults shelf.new) }
+    ensures unfailed { result ≢ Err FileRefusal.Read → S.faults shelf.new ≡ S.faults shelf.old }
     ensures table { IfOk result (λ t. IfTold (S.files shelf.old) name.now
         (λ image. IsConfigurationTable t image at)) }
     ensures fault { IfErr result (λ r. IfFaultOf r (λ f. IfTold (S.files shelf.old) name.now

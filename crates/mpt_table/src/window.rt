@@ -1,6 +1,6 @@
 //! Windows of a file: some of its bytes, read at once.
 
-ghost use Rattle.std.specs.Prelude.{◌≡◌, ◌+◌, ◌≤◌, ◌<◌, ◌^◌, length, Some, Err, IfOk, OnErr, OnOk};
+ghost use Rattle.std.specs.Prelude.{◌≡◌, ◌≢◌, ◌+◌, ◌≤◌, ◌<◌, ◌^◌, length, Some, Err, IfOk, OnErr, OnOk};
 ghost use Rattle.mpt_base.specs.Outside.{Rose, IsSizeTold, IsInsideTold, FillsFromTold};
 ghost use Rattle.mpt_spec.specs.Search.{word_at as search_word};
 ghost use Rattle.mpt_table.specs.Windows.{IfTold};
@@ -40,6 +40,7 @@ pub(crate) fn window<S: Shelf>(
     ensures all { IfOk result (λ bytes. length bytes.items ≡ len) }
     ensures unread { result ≡ Err WindowFailure.Unread
         → Rose (S.faults shelf.old) (S.faults shelf.new) }
+    ensures unfailed { result ≢ Err WindowFailure.Unread → S.faults shelf.new ≡ S.faults shelf.old }
 {
     let Ok(mut bytes) = zeros(alloc, len) else {
         return Err(WindowFailure::NoMemory);
@@ -64,6 +65,7 @@ pub(crate) fn word_from<S: Shelf>(
     ensures asks { S.asked shelf.new ≤ S.asked shelf.old + 2 }
     ensures told { IfOk result (λ word. IfTold (S.files shelf.old) name.now (λ image. word ≡ search_word image at)) }
     ensures unread { OnErr result (Rose (S.faults shelf.old) (S.faults shelf.new)) }
+    ensures unfailed { OnOk result (S.faults shelf.new ≡ S.faults shelf.old) }
 {
     if size < at + 2 {
         return Ok(0);

@@ -3,4 +3,4 @@ pub mod Forms
 pub mod Commands
 pub mod Walk
 pub mod Causes
-pub mod ReadAnswer
+pub mod Ending

@@ -16,7 +16,7 @@ loop-area-preserved g c =
     let held = c.loop-area.invariant in
     record {
       files = own.files_stay ∙ held.files;
-      faults = omega (arith, own.faults_never_fall, held.faults);
+      faults = own.unfailed (λ e. cc) ∙ held.faults;
       asked = omega (arith, own.asks, rw more at held.asked);
       areas = (rw more at held.areas).1;
       passed = passed-next (g.S.Shelf.files c.args.shelf.now) c.args.name.now (get_or areas i none) (drop (i + 1) areas) (flat_map places_in areas) (rw held.files at own.none) (rw more at held.passed);
