@@ -10,8 +10,6 @@ mod mem_sink;
 mod numbers;
 mod out_sink;
 mod outside;
-#[cfg(test)]
-mod tests;
 
 pub use fault::{Fault, Reason};
 pub use file_shelf::FileShelf;
