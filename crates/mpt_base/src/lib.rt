@@ -10,6 +10,7 @@ mod mem_sink;
 mod numbers;
 mod out_sink;
 mod outside;
+mod writing;
 
 pub use fault::{Fault, Reason};
 pub use file_shelf::FileShelf;
@@ -19,3 +20,4 @@ pub use mem_sink::MemSink;
 pub use numbers::{bytes_at, part_at, sum8, u16_at, u32_at, u64_at};
 pub use out_sink::OutSink;
 pub use outside::{Failed, NoMemory, Shelf, Sink};
+pub use writing::{put_bytes, put_u16, put_u32, put_u64, seal8};
