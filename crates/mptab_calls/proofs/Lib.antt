@@ -1,4 +1,3 @@
 pub mod DeliveryLemmas
 pub mod AnswerLemmas
 pub mod CauseLemmas
-pub mod WalkLemmas

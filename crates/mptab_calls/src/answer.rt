@@ -28,7 +28,7 @@ pub(crate) fn answer_to(
 ) -> Result<Answer, NoMemory>
     requires well_formed { IsWellFormed tables }
     requires low { tables.at < 2 ^ 32 }
-    ensures { IfOk result (λ answer. IsAnswerTo (form_of command) tables answer.status answer.text.items) }
+    ensures { IfOk result (λ answer. IsAnswerTo (form_of command.entry) tables answer.status answer.text.items) }
 {
     match command {
         Command::Show(_) => shown(alloc, &tables),

@@ -23,7 +23,7 @@ pub(crate) fn take_image<S: Shelf>(
     shelf: &mut S,
 ) -> Result<Tables, Ending>
     ensures files_stay { S.files shelf.new ≡ S.files shelf.old }
-    ensures heard { IfOk result (λ t. S.faults shelf.new ≡ S.faults shelf.old) }
+    ensures unfailed { IfOk result (λ t. S.faults shelf.new ≡ S.faults shelf.old) }
     ensures tables { IfOk result (λ t. GivesTables (S.files shelf.old) (Image name.now) t) }
     ensures well_formed { IfOk result IsWellFormed }
     ensures low { IfOk result (λ t. t.at < 2 ^ 32) }
@@ -50,7 +50,7 @@ fn image_of_size<S: Shelf>(
     requires told { IsSizeTold (S.files shelf.old) name.now (Some size) }
     requires within { size ≤ limit_of (Image name.now) }
     ensures files_stay { S.files shelf.new ≡ S.files shelf.old }
-    ensures heard { IfOk result (λ t. S.faults shelf.new ≡ S.faults shelf.old) }
+    ensures unfailed { IfOk result (λ t. S.faults shelf.new ≡ S.faults shelf.old) }
     ensures tables { IfOk result (λ t. GivesTables (S.files shelf.old) (Image name.now) t) }
     ensures well_formed { IfOk result IsWellFormed }
     ensures low { IfOk result (λ t. t.at < 2 ^ 32) }

@@ -2,10 +2,14 @@
 //! delivery of the answer.
 #![tactic(auto)]
 
+mod answer;
 mod calls;
 mod delivery;
+mod ending;
+mod giving;
 mod image;
-mod show;
+mod source;
 mod status;
+mod words;
 
 pub use calls::{run, run_still};
