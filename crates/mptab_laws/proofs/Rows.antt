@@ -8,6 +8,7 @@ use Rattle.mpt_spec.specs.declared.tables.Tables.{Tables}
 use Rattle.mpt_spec.specs.Search.{HasPointerAt, HasNoPointer, search_places}
 use Rattle.mpt_spec.specs.Table.{Describes}
 use Rattle.mpt_spec.specs.Faults.{IsFirstFault}
+use Rattle.mpt_spec.specs.Canonical.{IsWellFormed}
 use Rattle.mpt_spec.proofs.SearchLemmas.{IsFirst-some}
 use Rattle.mpt_spec.proofs.TableLemmas.{Describes-unique}
 use Rattle.mpt_spec.proofs.FaultLemmas.{IsFirstFault-unique, IsFirstFault-inside, Describes-no_first_fault}
@@ -18,8 +19,8 @@ use Rattle.mpt_laws.proofs.Judgment.{image-judged}
 use Rattle.mpt_laws.proofs.EntryJudgment.{Decided, decided-list}
 use Rattle.mpt_laws.proofs.WellFormedLemmas.{Describes-well_formed, Describes-below_4_gib}
 use Rattle.mptab_calls.specs.Texts.{fault_line, no_pointer_line}
-use Rattle.mptab_calls.specs.Forms.{Form, Show, Named, Image, IsForm, IsAny, IsStill, files_of, name_of, limit_of, IsRead}
-use Rattle.mptab_calls.specs.Commands.{IsUnderstood, IsRefused, IsText}
+use Rattle.mptab_calls.specs.Forms.{Form, Show, Named, Image, IsForm, IsAny, IsStill, source_of, files_of, name_of, limit_of, IsRead}
+use Rattle.mptab_calls.specs.Commands.{GivesTables, IsUnderstood, IsRefused, IsAnswerTo, IsText}
 use Rattle.mptab_calls.specs.Walk.{IsListed, IsNoForm}
 use Rattle.mptab_laws.specs.Laws.{AreBytesTold, HasOneText}
 
@@ -108,20 +109,42 @@ AreReady files (f ∷ fs) = IsReady files f × (IsUnderstood (Some files) f → 
 pub form_ready : (files : Files) (form : Form) → AreReady files (files_of form)
 form_ready files (Show i) = (tt, λ u. tt)
 
-pub text_one : (files : Files) (form : Form) (s u : ℕ) (t v : List ℕ) → HasOneText form → IsText (Some files) form s t → IsText (Some files) form u v → (s ≡ u) × (t ≡ v)
-text_one files (Show name) s u t v one a b =
-    let both = IsRead-meet files (Image name) (λ image. Describes image a.1) (λ image. Describes image b.1) a.4 b.4 in
-    (a.0 ∙ sym b.0, a.5 ∙ ap listing_of (Describes-unique both.0 a.1 b.1 both.1 both.2) ∙ sym b.5)
-
+-- the bytes of a file that is there
 told_byte : (held : Option (List ℕ)) (b : List ℕ) → held ≡ Some b → IfSome held IsByteList → IsByteList b
 told_byte held b e h = subst (λ (o : Option (List ℕ)). IfSome o IsByteList) e h
 
-pub text_given : (files : Files) (form : Form) → AreBytesTold files → AllByRecursion (IsUnderstood (Some files)) (files_of form) → (s : ℕ) × (t : List ℕ) × IsText (Some files) form s t
-text_given files (Show name) bytes all =
-    let u = all.0 in
-    let read = IsRead-bytes files (Image name) (λ image. Describes image u.0) u.1 in
+-- a file gives one tables alone
+gives_one : (files : Files) (file : Named) (t u : Tables) → GivesTables (Some files) file t → GivesTables (Some files) file u → t ≡ u
+gives_one files (Image name) t u a b =
+    let both = IsRead-meet files (Image name) (λ image. Describes image t) (λ image. Describes image u) a b in
+    Describes-unique both.0 t u both.1 both.2
+
+-- and they are well formed, their place below 4 GiB
+gives_good : (files : Files) (file : Named) (t : Tables) → AreBytesTold files → GivesTables (Some files) file t → IsWellFormed t × (t.at < 2 ^ 32)
+gives_good files (Image name) t bytes gives =
+    let read = IsRead-bytes files (Image name) (λ image. Describes image t) gives in
     let are = told_byte (files name) read.0 read.1 (bytes name) in
-    (0, listing_of u.0, (refl, u.0, Describes-well_formed read.0 u.0 are read.3, Describes-below_4_gib read.0 u.0 are read.3, u.1, refl))
+    (Describes-well_formed read.0 t are read.3, Describes-below_4_gib read.0 t are read.3)
+
+-- tables give a form one answer alone
+answer_to_one : (form : Form) (tables : Tables) (s u : ℕ) (t v : List ℕ) → HasOneText form → IsAnswerTo form tables s t → IsAnswerTo form tables u v → (s ≡ u) × (t ≡ v)
+answer_to_one (Show name) tables s u t v one a b = (a.0 ∙ sym b.0, a.1 ∙ sym b.1)
+
+-- and give it one
+answer_to_some : (form : Form) (tables : Tables) → IsWellFormed tables → (s : ℕ) × (t : List ℕ) × IsAnswerTo form tables s t
+answer_to_some (Show name) tables well = (0, listing_of tables, (refl, refl))
+
+pub text_one : (files : Files) (form : Form) (s u : ℕ) (t v : List ℕ) → HasOneText form → IsText (Some files) form s t → IsText (Some files) form u v → (s ≡ u) × (t ≡ v)
+text_one files form s u t v one a b =
+    let same : a.0 ≡ b.0 = gives_one files (source_of form) a.0 b.0 a.3 b.3 in
+    answer_to_one form a.0 s u t v one a.4 (subst (λ (x : Tables). IsAnswerTo form x u v) (sym same) b.4)
+
+pub text_given : (files : Files) (form : Form) → AreBytesTold files → AllByRecursion (IsUnderstood (Some files)) (files_of form) → (s : ℕ) × (t : List ℕ) × IsText (Some files) form s t
+text_given files form bytes all =
+    let tables = all.0.0 in
+    let good = gives_good files (source_of form) tables bytes all.0.1 in
+    let answer = answer_to_some form tables good.0 in
+    (answer.0, answer.1, (tables, good.0, good.1, all.0.1, answer.2))
 
 pub same_form : (form other : Form) (words : List (List ℕ)) → IsForm form words → IsForm other words → form ≡ other
 same_form (Show i) (Show j) words a b =
