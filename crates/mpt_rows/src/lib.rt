@@ -4,4 +4,8 @@
 #![tactic(auto)]
 
 #[cfg(test)]
+mod listing;
+#[cfg(test)]
 mod outside;
+#[cfg(test)]
+mod pointer;
