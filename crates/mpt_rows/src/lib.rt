@@ -4,6 +4,8 @@
 #![tactic(auto)]
 
 #[cfg(test)]
+mod file_shelf;
+#[cfg(test)]
 mod listing;
 #[cfg(test)]
 mod outside;
