@@ -4,8 +4,6 @@
 
 mod reading;
 mod search;
-#[cfg(test)]
-mod tests;
 
 pub use mpt_spec::{Area, Pointer};
 pub use reading::{pointer_at, read_pointer};

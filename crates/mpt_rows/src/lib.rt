@@ -4,4 +4,10 @@
 #![tactic(auto)]
 
 #[cfg(test)]
+mod file_shelf;
+#[cfg(test)]
+mod listing;
+#[cfg(test)]
 mod outside;
+#[cfg(test)]
+mod pointer;

@@ -3,7 +3,7 @@
 
 ghost use Rattle.std.specs.Prelude.{◌≡◌, IfOk, length};
 
-use crate::{Area, Pointer, areas, find, read_pointer};
+use mpt_pointer::{Area, Pointer, areas, find, read_pointer};
 use std::alloc::{AllocError, Global};
 use std::test::Fail;
 

@@ -1,6 +1,6 @@
 //! Listings whose text was written by hand from the format.
 
-use super::*;
+use mpt_listing::{Part, print, push_line};
 use mpt_spec::{
     Base, Body, Bus, Ext, Hierarchy, IntEntry, IoApic, Modifier, Opaque, Pointer, Processor,
     Sequence, Space, Table, Tables,
