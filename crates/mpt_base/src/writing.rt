@@ -40,6 +40,13 @@ pub fn put_u64(bytes: &mut [u8], at: usize, n: u64)
     put_bytes(bytes, at, &n.to_le_bytes());
 }
 
+/// The byte that makes the sum of all bytes zero modulo 256, if it takes the place of a zero.
+pub fn checksum8(bytes: &[u8]) -> u8
+    ensures { result ≡ checksum_of bytes.now }
+{
+    ((256 - sum8(bytes) as u16) % 256) as u8
+}
+
 /// Sets the byte at `at` so that the sum of all bytes is zero modulo 256. The other bytes stay.
 pub fn seal8(bytes: &mut [u8], at: usize)
     requires { at < length bytes.old }
@@ -47,5 +54,5 @@ pub fn seal8(bytes: &mut [u8], at: usize)
     ensures sums { SumsToZero bytes.new }
 {
     bytes[at] = 0;
-    bytes[at] = ((256 - sum8(bytes) as u16) % 256) as u8;
+    bytes[at] = checksum8(bytes);
 }

@@ -2,9 +2,11 @@
 //! (MultiProcessor Specification 1.4, sections 4.3 and 4.4).
 #![tactic(auto)]
 
+mod appending;
 mod base;
+mod base_writing;
 mod extended;
-mod fields;
+mod extended_writing;
 mod layouts;
 mod pci;
 mod stop;
@@ -12,7 +14,9 @@ mod stop;
 mod tests;
 
 pub use base::read_base;
+pub use base_writing::write_base;
 pub use extended::read_ext;
+pub use extended_writing::write_ext;
 pub use mpt_spec::{
     Base, Bus, Ext, Hierarchy, IntEntry, IoApic, Kind, Modifier, Opaque, Polarity, Processor,
     Space, Trigger,
