@@ -23,4 +23,4 @@ pub use mem_sink::MemSink;
 pub use numbers::{bytes_at, part_at, sum8, u16_at, u32_at, u64_at};
 pub use out_sink::OutSink;
 pub use outside::{Failed, NoMemory, Shelf, Sink};
-pub use writing::{checksum8, put_bytes, put_u16, put_u32, put_u64, seal8};
+pub use writing::{append, checksum8, put_bytes, put_u16, put_u32, put_u64, seal8};

@@ -1,13 +1,13 @@
 //! The bytes of base entries (MultiProcessor Specification 1.4, section 4.3, figures 4-4 to 4-8).
 
-ghost use Rattle.std.specs.Prelude.{◌≡◌, ◌++◌, OnOk, OnErr};
+ghost use Rattle.std.specs.Prelude.{◌≡◌, ◌+◌, ◌++◌, length, OnOk, OnErr};
+ghost use Rattle.mpt_spec.specs.Entries.{base_length};
 ghost use Rattle.mpt_spec.specs.Image.{interrupt_bytes, base_bytes};
 ghost use Rattle.mpt_spec.specs.declared.entry.Base.TheVariants as base;
 
-use crate::appending::append;
 use crate::base::{BUS, IO_APIC, IO_INTERRUPT, LOCAL_INTERRUPT, PROCESSOR};
 use crate::layouts::{bus_layout, interrupt_layout, io_apic_layout, processor_layout};
-use mpt_base::{NoMemory, put_fields};
+use mpt_base::{NoMemory, append, put_fields};
 use mpt_spec::{Base, Bus, IntEntry, IoApic, Processor};
 
 fn processor_bytes(entry: &Processor) -> [u8; 20]
@@ -51,6 +51,7 @@ fn interrupt_bytes(type_byte: u8, entry: &IntEntry) -> [u8; 8]
 /// is unchanged.
 pub fn write_base(out: &mut Vec<u8>, entry: &Base) -> Result<(), NoMemory>
     ensures ok { OnOk result (out.new.items ≡ out.old.items ++ base_bytes entry.now) }
+    ensures size { OnOk result (length out.new.items ≡ length out.old.items + base_length entry.now) }
     ensures err { OnErr result (out.new.items ≡ out.old.items) }
 {
     match entry {

@@ -1,14 +1,14 @@
 //! The bytes of extended entries (MultiProcessor Specification 1.4, section 4.4, figures 4-9 to 4-11).
 
-ghost use Rattle.std.specs.Prelude.{◌≡◌, ◌++◌, OnOk, OnErr};
+ghost use Rattle.std.specs.Prelude.{◌≡◌, ◌+◌, ◌++◌, length, OnOk, OnErr};
 ghost use Rattle.mpt_spec.specs.Canonical.{IsLawfulExt};
+ghost use Rattle.mpt_spec.specs.Extended.{ext_length};
 ghost use Rattle.mpt_spec.specs.Image.{ext_bytes};
 ghost use Rattle.mpt_spec.specs.declared.entry.Ext.TheVariants as ext;
 
-use crate::appending::append;
 use crate::extended::{HIERARCHY, MODIFIER, SPACE};
 use crate::layouts::{hierarchy_layout, modifier_layout, space_layout};
-use mpt_base::{NoMemory, put_fields};
+use mpt_base::{NoMemory, append, put_fields};
 use mpt_spec::{Ext, Hierarchy, Modifier, Opaque, Space};
 
 fn space_bytes(entry: &Space) -> [u8; 20]
@@ -66,6 +66,7 @@ fn write_opaque(out: &mut Vec<u8>, entry: &Opaque) -> Result<(), NoMemory>
 pub fn write_ext(out: &mut Vec<u8>, entry: &Ext) -> Result<(), NoMemory>
     requires lawful { IsLawfulExt entry.now }
     ensures ok { OnOk result (out.new.items ≡ out.old.items ++ ext_bytes entry.now) }
+    ensures size { OnOk result (length out.new.items ≡ length out.old.items + ext_length entry.now) }
     ensures err { OnErr result (out.new.items ≡ out.old.items) }
 {
     match entry {

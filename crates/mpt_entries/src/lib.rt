@@ -2,7 +2,6 @@
 //! (MultiProcessor Specification 1.4, sections 4.3 and 4.4).
 #![tactic(auto)]
 
-mod appending;
 mod base;
 mod base_writing;
 mod extended;

@@ -338,7 +338,7 @@ FitsInImage-canonical_of tables = (
 )
 
 -- the fields of the canonical form fit where those of the tables do
-zeros : (n : ℕ) → (length (replicate n 0) ≡ n) × IsByteList (replicate n 0)
+zeros : (n : ℕ) → (length {A = ℕ} (replicate n 0) ≡ n) × IsByteList (replicate n 0)
 zeros n = (length-replicate n 0, λ i. zero_at n i)
   where
     zero_at : (n i : ℕ) → slice_index (replicate n 0) i < 256

@@ -1,7 +1,7 @@
 -- The values of the types: in a definition a field is any number, so a law over every entry has as its premise that its
 -- numbers fit their fields, a byte below 256 and so on (MultiProcessor Specification 1.4, figures 4-2 to 4-11).
 --     IsBaseValue e, IsExtValue e, IsPointerValue p, IsTableValue t, IsTablesValue tables   the fields fit
-use Rattle.std.specs.Prelude.{◌≡◌, ℕ, ◌^◌, ◌<◌, length}
+use Rattle.std.specs.Prelude.{◌≡◌, ◌^◌, ◌<◌, length}
 use Rattle.std.specs.List.{AllByRecursion}
 use Rattle.mpt_base.specs.Bytes.{IsByteList}
 use Rattle.mpt_spec.specs.declared.pointer.Pointer.{Pointer}
