@@ -13,11 +13,11 @@ use Rattle.mpt_spec.proofs.SearchLemmas.{IsFirst-some}
 use Rattle.mpt_spec.proofs.TableLemmas.{Describes-unique}
 use Rattle.mpt_spec.proofs.FaultLemmas.{IsFirstFault-unique, IsFirstFault-inside, Describes-no_first_fault}
 use Rattle.mpt_listing.specs.Listing.{listing_of}
-use Rattle.mpt_laws.specs.Values.{IsByteList}
+use Rattle.mpt_base.specs.Bytes.{IsByteList}
 use Rattle.mpt_laws.specs.Laws.{IsDescribed, HasFirstFault}
 use Rattle.mpt_laws.proofs.Judgment.{image-judged}
 use Rattle.mpt_laws.proofs.EntryJudgment.{Decided, decided-list}
-use Rattle.mpt_laws.proofs.WellFormedLemmas.{Describes-well_formed, Describes-below_4_gib}
+use Rattle.mpt_spec.proofs.WellFormedLemmas.{Describes-well_formed, Describes-below_4_gib}
 use Rattle.mptab_calls.specs.Texts.{fault_line, no_pointer_line}
 use Rattle.mptab_calls.specs.Forms.{Form, Show, Named, Image, IsForm, IsAny, IsStill, source_of, files_of, name_of, limit_of, IsRead}
 use Rattle.mptab_calls.specs.Commands.{GivesTables, IsUnderstood, IsRefused, IsAnswerTo, IsText}

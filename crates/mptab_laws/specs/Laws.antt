@@ -4,7 +4,7 @@
 --     HaveOneText words       so it is of the form of these words
 use Rattle.std.specs.Prelude.{ℕ, List, IfSome, ⊤}
 use Rattle.mpt_base.specs.Outside.{Files}
-use Rattle.mpt_laws.specs.Values.{IsByteList}
+use Rattle.mpt_base.specs.Bytes.{IsByteList}
 use Rattle.mptab_calls.specs.Forms.{Form, Show, IsForm}
 
 -- each file is a list of bytes
