@@ -1,7 +1,7 @@
 -- What those who cite the readers need of lines: two right values with one line are one, and a text begins with the line of a
 -- right value or with that of none.
-use Rattle.std.proofs.Common.{◌≡◌, ℕ, List, inl, inr, ◌⊎◌, refl}
-use Rattle.std.specs.Prelude.{Option, Some, None}
+use Rattle.std.proofs.Common.{◌≡◌, ℕ, List, ◌++◌, inl, inr, ◌⊎◌, refl, sym, ap, ◌∙◌}
+use Rattle.std.specs.Prelude.{◌≢◌, Option, Some, None}
 use Rattle.mpt_spec.specs.declared.entry.Base.{Base}
 use Rattle.mpt_spec.specs.declared.entry.Ext.{Ext}
 use Rattle.mpt_laws.specs.Values.{IsBaseValue}
@@ -9,7 +9,8 @@ use Rattle.mpt_listing.specs.Listing.{base_line, ext_line}
 use Rattle.mpt_line.specs.declared.heads.PointerLine.{PointerLine}
 use Rattle.mpt_line.specs.declared.heads.HeaderLine.{HeaderLine}
 use Rattle.mpt_line.specs.Lines.{IsRightPointer, pointer_text, IsRightHeader, header_text, IsRightExt, BeginsWith, BeginsWithNone}
-use Rattle.mpt_line.proofs.Exact.{IsExact, text_is_one, reads_none}
+use Rattle.mpt_line.specs.Reading.{text_in}
+use Rattle.mpt_line.proofs.Exact.{IsExact, text_is_one, reads_none, text_again, text_takes}
 use Rattle.mpt_line.proofs.BaseForms.{base-exact}
 use Rattle.mpt_line.proofs.ExtForms.{ext-exact}
 use Rattle.mpt_line.proofs.TableForms.{pointer-exact, header-exact}
@@ -49,3 +50,11 @@ pointer_text-first = first_line pointer-exact
 
 pub header_text-first : (text : List ℕ) → HasFirstLine header_text IsRightHeader text
 header_text-first = first_line header-exact
+
+-- a text begins with another, or doesn't
+pub text-first : (front text : List ℕ) → ((rest : List ℕ) × (text ≡ front ++ rest)) ⊎ ((rest : List ℕ) → text ≢ front ++ rest)
+text-first front text = at (text_in front text) refl
+  where
+    at : (o : Option (List ℕ)) → text_in front text ≡ o → ((rest : List ℕ) × (text ≡ front ++ rest)) ⊎ ((rest : List ℕ) → text ≢ front ++ rest)
+    at (Some rest) e = inl (rest, text_takes front text rest e)
+    at None e = inr (λ rest h. (let k : None ≡ Some rest = sym e ∙ ap (text_in front) h ∙ text_again front rest in absurd (cc (k))))

@@ -1,6 +1,6 @@
 -- Every text is the listing of tables or has a first bad line.
 use Rattle.std.proofs.Common.{◌≡◌, ℕ, zero, suc, ◌+◌, ◌<◌, ◌≤◌, List, [], ◌∷◌, ◌++◌, length, sym, refl, ap, ◌∙◌, append_assoc, append-nil, inl, inr, ◌⊎◌, arith}
-use Rattle.std.specs.Prelude.{Option, Some, None, ◌≢◌}
+use Rattle.std.specs.Prelude.{◌≢◌}
 use Rattle.std.specs.List.{flat_map}
 use Rattle.mpt_spec.specs.declared.pointer.Pointer.{Pointer}
 use Rattle.mpt_spec.specs.declared.entry.Base.{Base}
@@ -10,20 +10,18 @@ use Rattle.mpt_spec.specs.declared.tables.Body.{Body}
 use Rattle.mpt_spec.specs.declared.tables.Body.TheVariants as body
 use Rattle.mpt_spec.specs.declared.tables.Tables.{Tables}
 use Rattle.mpt_spec.specs.Table.{default_number}
-use Rattle.mpt_laws.specs.Values.{IsBodyValue}
+use Rattle.mpt_laws.specs.Values.{IsBaseValue, IsBodyValue}
 use Rattle.mpt_listing.specs.Listing.{base_line, ext_line}
-use Rattle.mpt_line.specs.declared.heads.Head.{Head}
+use Rattle.mpt_line.specs.declared.heads.HeaderLine.{HeaderLine}
+use Rattle.mpt_line.specs.declared.heads.PointerLine.{PointerLine}
+use Rattle.mpt_line.specs.Lines.{IsRightExt, IsRightPointer, pointer_text, IsRightHeader, header_text, table_with, BeginsWith, BeginsWithNone}
+use Rattle.mpt_line.proofs.CallerLemmas.{HasFirstLine, base_line-first, ext_line-first, pointer_text-first, header_text-first}
 use Rattle.mpt_parse.specs.declared.fault.LineWhy.{LineWhy}
 use Rattle.mpt_parse.specs.declared.fault.LineWhy.TheVariants as why
 use Rattle.mpt_parse.specs.declared.fault.ListingFault.TheVariants as fault
 use Rattle.mpt_parse.specs.Listings.{title_line, end_line, HasRightBody, IsListing, IsListingOf, IsFirstBadLine}
-use Rattle.mpt_line.specs.Reading.{text_in}
-use Rattle.mpt_line.specs.Forms.{base_in, ext_in, head_in, pointer_in}
-use Rattle.mpt_parse.specs.Languages.{IsEnd, AreTableLines, AreBodyLines, IsRightTable, IsFaultBehind, IsUnfinished, AreFirstBases, AreFirstExts, behind_text, table_of}
-use Rattle.mpt_line.proofs.Exact.{text_takes}
-use Rattle.mpt_line.proofs.BaseForms.{base-exact}
-use Rattle.mpt_line.proofs.ExtForms.{ext-exact}
-use Rattle.mpt_line.proofs.TableForms.{IsRightPointer, pointer-exact}
+use Rattle.mpt_line.proofs.CallerLemmas.{text-first}
+use Rattle.mpt_parse.specs.Languages.{IsEnd, AreTableLines, AreBodyLines, IsRightTable, IsFaultBehind, IsUnfinished, AreFirstLines, behind_text}
 use Rattle.mpt_parse.proofs.Prefix.{end_stop, late}
 use Rattle.mpt_parse.proofs.EntryLines.{shorter, base_some, ext_some}
 use Rattle.mpt_parse.proofs.TableLines.{table_stop, table_fault, table_whole, listed_fault, default_fault}
@@ -38,64 +36,52 @@ unfinished before [] = (before + 1, why.Early, (refl, refl))
 unfinished before (c ∷ cs) = (before + 1, why.Form, (refl, λ e. absurd (cc (e))))
 
 end_or_fault : (before : ℕ) (text : List ℕ) → (text ≡ end_line) ⊎ HasFault IsEnd before text
-end_or_fault before text = at (text_in end_line text) refl
+end_or_fault before text = elim (text-first end_line text) [
+  | inl k ↦ at k.0 k.1
+  | inr none ↦ (let u = unfinished before text in inr (u.0, u.1, end_stop text before (fault.Line u.0 u.1) none u.2))
+]
   where
-    at : (o : Option (List ℕ)) → text_in end_line text ≡ o → (text ≡ end_line) ⊎ HasFault IsEnd before text
-    at None e = let u = unfinished before text in inr (u.0, u.1, end_stop text before (fault.Line u.0 u.1) e u.2)
-    at (Some []) e = inl (text_takes end_line text [] e ∙ append-nil end_line)
-    at (Some (c ∷ r)) e = inr (before + 2, why.Late, (2, refl, late text (c ∷ r) before (text_takes end_line text (c ∷ r) e) (λ k. absurd (cc (k)))))
+    at : (rest : List ℕ) → text ≡ end_line ++ rest → (text ≡ end_line) ⊎ HasFault IsEnd before text
+    at [] e = inl (e ∙ append-nil end_line)
+    at (c ∷ r) e = inr (before + 2, why.Late, (2, refl, late text (c ∷ r) before e (λ k. absurd (cc (k)))))
 
--- the entries that stand first
-abbrev SomeBases : List ℕ → Type 0
-SomeBases text = (es : List Base) × (rest : List ℕ) × AreFirstBases es text rest
+-- the entries of one kind whose lines begin a text
+module _ {E : Type 0} (line : E → List ℕ) (Right : E → Type 0) (first : (text : List ℕ) → HasFirstLine line Right text) (some : (e : E) → 1 ≤ length (line e)) where
+  abbrev SomeEntries : List ℕ → Type 0
+  SomeEntries text = (es : List E) × (rest : List ℕ) × AreFirstLines line Right es text rest
 
-abbrev SomeExts : List ℕ → Type 0
-SomeExts text = (es : List Ext) × (rest : List ℕ) × AreFirstExts es text rest
+  entries_step : (text : List ℕ) (n : ℕ) → length text ≤ n → ((after : List ℕ) → length after < n → SomeEntries after) → SomeEntries text
+  entries_step text n h more = elim (first text) [
+    | inl x ↦ at x.0 x.1 x.2
+    | inr none ↦ ([], text, record { whole = refl; values = tt; last = none })
+  ]
+    where
+      at : (e : E) (after : List ℕ) → BeginsWith line Right text e after → SomeEntries text
+      at e after b =
+          let less : length after < length text = shorter (line e) text after (some e) b.whole in
+          let s = more after (omega (arith, less, h)) in
+          (e ∷ s.0, s.1, record { whole = b.whole ∙ ap (λ y. line e ++ y) s.2.whole ∙ sym (append_assoc (line e) (flat_map line s.0) s.1); values = (b.right, s.2.values); last = s.2.last })
 
-bases_step : (text : List ℕ) (n : ℕ) → length text ≤ n → ((after : List ℕ) → length after < n → SomeBases after) → SomeBases text
-bases_step text n h more = at (base_in text) refl
-  where
-    at : (o : Option (Base × List ℕ)) → base_in text ≡ o → SomeBases text
-    at None k = ([], text, record { whole = refl; values = tt; last = k })
-    at (Some x) k =
-        let t = base-exact.takes text x.0 x.1 k in
-        let less : length x.1 < length text = shorter (base_line x.0) text x.1 (base_some x.0) t.1 in
-        let s = more x.1 (omega (arith, less, h)) in
-        (x.0 ∷ s.0, s.1, record { whole = t.1 ∙ ap (λ y. base_line x.0 ++ y) s.2.whole ∙ sym (append_assoc (base_line x.0) (flat_map base_line s.0) s.1); values = (t.0, s.2.values); last = s.2.last })
-
-bases_in : (n : ℕ) (text : List ℕ) → length text ≤ n → SomeBases text
-bases_in zero text h = bases_step text zero h (λ after l. absurd (omega (arith, l)))
-bases_in (suc n) text h = bases_step text (suc n) h (λ after l. bases_in n after (omega (arith, l)))
-
-exts_step : (text : List ℕ) (n : ℕ) → length text ≤ n → ((after : List ℕ) → length after < n → SomeExts after) → SomeExts text
-exts_step text n h more = at (ext_in text) refl
-  where
-    at : (o : Option (Ext × List ℕ)) → ext_in text ≡ o → SomeExts text
-    at None k = ([], text, record { whole = refl; values = tt; last = k })
-    at (Some x) k =
-        let t = ext-exact.takes text x.0 x.1 k in
-        let less : length x.1 < length text = shorter (ext_line x.0) text x.1 (ext_some x.0) t.1 in
-        let s = more x.1 (omega (arith, less, h)) in
-        (x.0 ∷ s.0, s.1, record { whole = t.1 ∙ ap (λ y. ext_line x.0 ++ y) s.2.whole ∙ sym (append_assoc (ext_line x.0) (flat_map ext_line s.0) s.1); values = (t.0, s.2.values); last = s.2.last })
-
-exts_in : (n : ℕ) (text : List ℕ) → length text ≤ n → SomeExts text
-exts_in zero text h = exts_step text zero h (λ after l. absurd (omega (arith, l)))
-exts_in (suc n) text h = exts_step text (suc n) h (λ after l. exts_in n after (omega (arith, l)))
+  entries_in : (n : ℕ) (text : List ℕ) → length text ≤ n → SomeEntries text
+  entries_in zero text h = entries_step text zero h (λ after l. absurd (omega (arith, l)))
+  entries_in (suc n) text h = entries_step text (suc n) h (λ after l. entries_in n after (omega (arith, l)))
 
 -- a table, or its first bad line
 abbrev IsTableText : List ℕ → Type 0
 IsTableText text = (t : Table) × IsRightTable t × (text ≡ behind_text (body.Listed t))
 
 table_or_fault : (text : List ℕ) → IsTableText text ⊎ HasFault AreTableLines 2 text
-table_or_fault text = at (head_in text) refl
+table_or_fault text = elim (header_text-first text) [
+  | inl x ↦ at x.0 x.1 x.2
+  | inr none ↦ (let u = unfinished 2 text in inr (u.0, u.1, table_stop text 2 (fault.Line u.0 u.1) none u.2))
+]
   where
-    at : (o : Option (Head × List ℕ)) → head_in text ≡ o → IsTableText text ⊎ HasFault AreTableLines 2 text
-    at None e = let u = unfinished 2 text in inr (u.0, u.1, table_stop text 2 (fault.Line u.0 u.1) e u.2)
-    at (Some (h, rest)) e =
-        let b = bases_in (length rest) rest (omega arith) in
-        let x = exts_in (length b.1) b.1 (omega arith) in
+    at : (h : HeaderLine) (rest : List ℕ) → BeginsWith header_text IsRightHeader text h rest → IsTableText text ⊎ HasFault AreTableLines 2 text
+    at h rest e =
+        let b = entries_in base_line IsBaseValue base_line-first base_some (length rest) rest (omega arith) in
+        let x = entries_in ext_line IsRightExt ext_line-first ext_some (length b.1) b.1 (omega arith) in
         elim (end_or_fault (2 + 1 + length b.0 + length x.0) x.1) [
-          | inl k ↦ (let w = table_whole h b.0 x.0 text rest b.1 x.1 e b.2 x.2 k in inl (table_of h b.0 x.0, w.0, w.1))
+          | inl k ↦ (let w = table_whole h b.0 x.0 text rest b.1 x.1 e b.2 x.2 k in inl (table_with h b.0 x.0, w.0, w.1))
           | inr f ↦ inr (f.0, f.1, table_fault h b.0 x.0 text rest b.1 x.1 2 (fault.Line f.0 f.1) e b.2 x.2 f.2)
         ]
 
@@ -125,20 +111,22 @@ abbrev IsListingText : List ℕ → Type 0
 IsListingText text = (t : Tables) × IsListingOf t text
 
 listing_or_fault : (text : List ℕ) → IsListingText text ⊎ HasFault IsListing 0 text
-listing_or_fault text = at (text_in title_line text) refl
+listing_or_fault text = elim (text-first title_line text) [
+  | inl k ↦ behind k.0 k.1
+  | inr none ↦ (let u = unfinished 0 text in inr (u.0, u.1, title_stop text (fault.Line u.0 u.1) none u.2))
+]
   where
-    behind : (b : List ℕ) → text_in title_line text ≡ Some b → (o : Option ((ℕ × Pointer) × List ℕ)) → pointer_in b ≡ o → IsListingText text ⊎ HasFault IsListing 0 text
-    behind b e None k = let u = unfinished 1 b in inr (u.0, u.1, title_fault text b (fault.Line u.0 u.1) e (pointer_stop b 1 (fault.Line u.0 u.1) k u.2))
-    behind b e (Some (v, rest)) k =
-        let r : IsRightPointer v = (pointer-exact.takes b v rest k).0 in
-        elim (body_or_fault v.1 r.low r.address rest) [
-          | inl y ↦ inl (tables_of v y.0, listing_whole v y.0 text b rest e k y.1 y.2 y.3)
-          | inr f ↦ inr (f.0, f.1, title_fault text b (fault.Line f.0 f.1) e (pointer_fault v b rest 1 (fault.Line f.0 f.1) k f.2))
-        ]
+    pointed : (b : List ℕ) → text ≡ title_line ++ b → (v : PointerLine) (rest : List ℕ) → BeginsWith pointer_text IsRightPointer b v rest → IsListingText text ⊎ HasFault IsListing 0 text
+    pointed b e v rest k = elim (body_or_fault v.pointer k.right.number k.right.address rest) [
+      | inl y ↦ inl (tables_of v y.0, listing_whole v y.0 text b rest e k y.1 y.2 y.3)
+      | inr f ↦ inr (f.0, f.1, title_fault text b (fault.Line f.0 f.1) e (pointer_fault v b rest 1 (fault.Line f.0 f.1) k f.2))
+    ]
 
-    at : (o : Option (List ℕ)) → text_in title_line text ≡ o → IsListingText text ⊎ HasFault IsListing 0 text
-    at None e = let u = unfinished 0 text in inr (u.0, u.1, title_stop text (fault.Line u.0 u.1) e u.2)
-    at (Some b) e = behind b e (pointer_in b) refl
+    behind : (b : List ℕ) → text ≡ title_line ++ b → IsListingText text ⊎ HasFault IsListing 0 text
+    behind b e = elim (pointer_text-first b) [
+      | inl x ↦ pointed b e x.0 x.1 x.2
+      | inr none ↦ (let u = unfinished 1 b in inr (u.0, u.1, title_fault text b (fault.Line u.0 u.1) e (pointer_stop b 1 (fault.Line u.0 u.1) none u.2)))
+    ]
 
 pub every_text : (text : List ℕ) → ((t : Tables) × IsListingOf t text) ⊎ ((n : ℕ) × (w : LineWhy) × IsFirstBadLine IsListing text n w)
 every_text text = elim (listing_or_fault text) [

@@ -11,13 +11,13 @@ use Rattle.mpt_laws.specs.Values.{IsBaseValue, IsBodyValue}
 use Rattle.mpt_listing.specs.Listing.{pointer_line, header_line, base_line, ext_line, body_lines, listing_of}
 use Rattle.mpt_parse.specs.declared.fault.LineWhy.{LineWhy}
 use Rattle.mpt_parse.specs.declared.fault.LineWhy.TheVariants as why
-use Rattle.mpt_parse.specs.Listings.{title_line, end_line, lines_behind, lines_of, HasRightBody, IsListing, IsListingOf, IsLongestValidPrefix, IsBadBecause, IsFirstBadLine}
+use Rattle.mpt_parse.specs.Listings.{title_line, end_line, lines_behind, lines_of, HasRightBody, IsListing, IsListingOf, IsLongestValidPrefix, IsBadBecause, IsFirstBadLine, IsWholeLine}
 use Rattle.mpt_line.specs.Lines.{IsRightExt, table_with}
 use Rattle.mpt_line.proofs.CallerLemmas.{base_line-one, ext_line-one, pointer_text-one, header_text-one}
 use Rattle.mpt_parse.proofs.EntryLines.{base_kind, ext_kind, other_kind, head_is, tail_is, regroup}
 use Rattle.mpt_parse.proofs.TableLines.{head_of, right_head, right_exts}
 use Rattle.mpt_parse.proofs.ListingLines.{tables_of, placed, right_pointer}
-use Rattle.mpt_parse.proofs.WholeLines.{IsWholeLine, lines_whole, one_first_line, no_empty_line}
+use Rattle.mpt_parse.proofs.WholeLines.{lines_whole, one_first_line, no_empty_line}
 
 -- the longest prefix is one, where all lines are whole
 prefix_one : (L : List (List ℕ) → Type 0) → ((ls : List (List ℕ)) → L ls → AllByRecursion IsWholeLine ls) → (g h : List (List ℕ)) (text r s : List ℕ) → IsLongestValidPrefix L g text r → IsLongestValidPrefix L h text s → (g ≡ h) × (r ≡ s)
@@ -41,7 +41,7 @@ prefix_one L whole (x ∷ g) (y ∷ h) text r s p q =
     }) in
     ((λ i. o.0 i ∷ more.0 i), more.1)
 
-listing_whole : (ls : List (List ℕ)) → IsListing ls → AllByRecursion IsWholeLine ls
+pub listing_whole : (ls : List (List ℕ)) → IsListing ls → AllByRecursion IsWholeLine ls
 listing_whole ls (t, h, e) = subst (λ (x : List (List ℕ)). AllByRecursion IsWholeLine x) (sym e) (lines_whole t)
 
 -- a text has one first bad line at most
@@ -77,11 +77,11 @@ pub lines_make_the_listing : (t : Tables) → flat_map (λ l. l) (lines_of t) �
 lines_make_the_listing t = ap (λ x. title_line ++ (pointer_line t ++ x)) (behind_joined t.body) ∙ regroup title_line (pointer_line t) (body_lines t.body) end_line
 
 -- a whole listing is its own longest prefix
-empty_front : (x y : List ℕ) → [] ≡ x ++ y → x ≡ []
+pub empty_front : (x y : List ℕ) → [] ≡ x ++ y → x ≡ []
 empty_front [] y e = refl
 empty_front (c ∷ x) y e = absurd (cc (e))
 
-whole_at : (xs : List (List ℕ)) (y : List ℕ) (ys : List (List ℕ)) → AllByRecursion IsWholeLine (xs ++ y ∷ ys) → IsWholeLine y
+pub whole_at : (xs : List (List ℕ)) (y : List ℕ) (ys : List (List ℕ)) → AllByRecursion IsWholeLine (xs ++ y ∷ ys) → IsWholeLine y
 whole_at [] y ys h = h.0
 whole_at (x ∷ xs) y ys h = whole_at xs y ys h.1
 

@@ -13,15 +13,7 @@ use Rattle.mpt_spec.specs.declared.tables.Body.{Body}
 use Rattle.mpt_spec.specs.declared.tables.Body.TheVariants as body
 use Rattle.mpt_spec.specs.declared.tables.Tables.{Tables}
 use Rattle.mpt_listing.specs.Listing.{hex, hex_digit, hex_bytes, is_plain_byte, quoted_byte, quoted, rest_field, line, pointer_line, header_line, interrupt_line, base_line, ext_line}
-use Rattle.mpt_parse.specs.Listings.{end_line, lines_behind, lines_of}
-
--- no byte is a line feed
-abbrev pub HasNoFeed : List ℕ → Type 0
-HasNoFeed bytes = AllByRecursion (λ c. c ≢ 10) bytes
-
--- a whole line: it ends in a line feed, its only one
-abbrev pub IsWholeLine : List ℕ → Type 0
-IsWholeLine l = (front : List ℕ) × (l ≡ front ++ 10 ∷ []) × HasNoFeed front
+use Rattle.mpt_parse.specs.Listings.{HasNoFeed, IsWholeLine, end_line, lines_behind, lines_of}
 
 joined : (xs ys : List ℕ) → HasNoFeed xs → HasNoFeed ys → HasNoFeed (xs ++ ys)
 joined [] ys p q = q

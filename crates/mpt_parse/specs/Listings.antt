@@ -2,9 +2,10 @@
 --     HasRightValues tables            the tables have a listing
 --     lines_of tables                  its lines, the first to the last
 --     IsListing                        the lines are those of a listing
---     IsLongestValidPrefix L valid text rest the longest run of the text's leading lines that begins a member of L
---     IsFirstBadLine L text n why      line n is the first one that is bad
 --     IsListingOf tables text          the text is the listing of the tables
+--     IsWholeLine line                 the line ends in a line feed, its only one
+--     IsLongestValidPrefix L valid text rest   the longest run of the text's leading lines that begins a member of L
+--     IsFirstBadLine L text n why      line n is the first one that is bad
 --     IsCauseOf text fault             the fault has its cause in the text
 --     AnswersTables, AnswersUnfit, AnswersLine   what the answer is, unless memory ran out
 use Rattle.std.specs.Prelude.{◌≡◌, ◌≢◌, ℕ, ◌+◌, ◌^◌, ◌<◌, ◌≤◌, List, [], ◌∷◌, ◌++◌, length, map, codes, ⊤, Result, Ok, Err}
@@ -53,6 +54,14 @@ lines_of tables = title_line ∷ pointer_line tables ∷ lines_behind tables.bod
 -- the lines are those of a listing
 abbrev pub IsListing : List (List ℕ) → Type 0
 IsListing lines = (tables : Tables) × HasRightValues tables × (lines ≡ lines_of tables)
+
+-- no byte is a line feed
+abbrev pub HasNoFeed : List ℕ → Type 0
+HasNoFeed bytes = AllByRecursion (λ c. c ≢ 10) bytes
+
+-- a whole line: it ends in a line feed, its only one
+abbrev pub IsWholeLine : List ℕ → Type 0
+IsWholeLine l = (front : List ℕ) × (l ≡ front ++ 10 ∷ []) × HasNoFeed front
 
 -- Of a set of lists of lines, as that of the listings: valid is the longest run of the text's leading lines that begins a
 -- member, and rest is what follows it

@@ -1,5 +1,5 @@
 use Rattle.mpt_parse.proofs.Unique.{bad_line_is_one, listing_is_not_bad}
-use Rattle.mpt_parse.proofs.laws.first_bad_line_is_one.Goals as goal
+use Rattle.mpt_listing_laws.proofs.laws.first_bad_line_is_one.Goals as goal
 
 pub returns-clause-one : goal.returns-clause-one
 returns-clause-one c = bad_line_is_one
