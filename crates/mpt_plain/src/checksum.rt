@@ -1,7 +1,7 @@
 //! The byte that makes a sum zero (MultiProcessor Specification 1.4, sections 4.1 and 4.2).
 
 ghost use Rattle.std.specs.Prelude.{◌≡◌};
-ghost use Rattle.mpt_spec.specs.Image.{checksum_of};
+ghost use Rattle.mpt_base.specs.Writing.{checksum_of};
 
 use mpt_base::sum8;
 

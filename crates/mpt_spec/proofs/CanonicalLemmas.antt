@@ -18,7 +18,8 @@ use Rattle.mpt_spec.specs.declared.tables.Tables.{Tables}
 use Rattle.mpt_spec.specs.Entries.{base_length}
 use Rattle.mpt_spec.specs.Extended.{ext_length}
 use Rattle.mpt_spec.specs.Canonical.{base_type, in_type_order, canonical_pointer, canonical_base, canonical_ext, canonical_body, canonical_of, HasClearBits, HasClearExtBits, IsInTypeOrder, IsCanonicalBody, IsCanonical, IsLawfulExt, IsWellFormedTable, IsWellFormedBody, HasPlaceFor, HasBlockPlace, FitsInImage, base_size, ext_size}
-use Rattle.mpt_laws.specs.Values.{IsByteList, AreBytes, IsBaseValue, IsExtValue, IsBodyValue, IsTablesValue}
+use Rattle.mpt_base.specs.Bytes.{IsByteList}
+use Rattle.mpt_spec.specs.Values.{IsBaseValue, IsExtValue, IsBodyValue, IsTablesValue}
 
 -- what holds of each member
 module _ {X : Type 0} where
@@ -225,7 +226,7 @@ canonical_body-fixed (body.Listed t) h =
 pub canonical_of-canonical : (tables : Tables) → IsTablesValue tables → IsCanonical tables → canonical_of tables ≡ tables
 canonical_of-canonical tables v c =
     let features : slice_index tables.pointer.features 0 ∷ 64 * (slice_index tables.pointer.features 1 / 64) ∷ 0 ∷ 0 ∷ 0 ∷ [] ≡ tables.pointer.features =
-    features-fixed tables.pointer.features v.pointer.features.size c.feature_byte_2 c.feature_byte_3 c.feature_byte_4 c.feature_byte_5 in
+    features-fixed tables.pointer.features v.pointer.features.0 c.feature_byte_2 c.feature_byte_3 c.feature_byte_4 c.feature_byte_5 in
     let same : canonical_body tables.body ≡ tables.body = canonical_body-fixed tables.body c.body in
     λ i. record tables { pointer = record tables.pointer { features = features i }; body = same i }
 
@@ -337,8 +338,8 @@ FitsInImage-canonical_of tables = (
 )
 
 -- the fields of the canonical form fit where those of the tables do
-zeros : (n : ℕ) → AreBytes (replicate n 0) n
-zeros n = record { size = length-replicate n 0; below = λ i. zero_at n i }
+zeros : (n : ℕ) → (length {A = ℕ} (replicate n 0) ≡ n) × IsByteList (replicate n 0)
+zeros n = (length-replicate n 0, λ i. zero_at n i)
   where
     zero_at : (n i : ℕ) → slice_index (replicate n 0) i < 256
     zero_at zero i = omega arith
@@ -376,17 +377,17 @@ canonical_body-value (body.Listed t) v = record {
   ext = all-mapped IsExtValue canonical_ext canonical_ext-value t.ext v.ext;
 }
 
-features-value : (fs : List ℕ) → IsByteList fs → AreBytes (slice_index fs 0 ∷ 64 * (slice_index fs 1 / 64) ∷ 0 ∷ 0 ∷ 0 ∷ []) 5
-features-value fs b = record { size = refl; below = λ i. byte i }
+features-value : (fs : List ℕ) → IsByteList fs → (length (slice_index fs 0 ∷ 64 * (slice_index fs 1 / 64) ∷ 0 ∷ 0 ∷ 0 ∷ []) ≡ 5) × IsByteList (slice_index fs 0 ∷ 64 * (slice_index fs 1 / 64) ∷ 0 ∷ 0 ∷ 0 ∷ [])
+features-value fs b = (refl, λ i. byte i)
   where
     byte : (i : ℕ) → slice_index (slice_index fs 0 ∷ 64 * (slice_index fs 1 / 64) ∷ 0 ∷ 0 ∷ 0 ∷ []) i < 256
     byte zero = b 0
     byte (suc zero) = omega (arith, b 1)
-    byte (suc (suc i)) = (zeros 3).below i
+    byte (suc (suc i)) = (zeros 3).1 i
 
 pub IsTablesValue-canonical_of : (tables : Tables) → IsTablesValue tables → IsTablesValue (canonical_of tables)
 IsTablesValue-canonical_of tables v = record {
   at = v.at;
-  pointer = record { address = v.pointer.address; revision = v.pointer.revision; features = features-value tables.pointer.features v.pointer.features.below };
+  pointer = record { address = v.pointer.address; revision = v.pointer.revision; features = features-value tables.pointer.features v.pointer.features.1 };
   body = canonical_body-value tables.body v.body;
 }

@@ -15,10 +15,11 @@ use Rattle.mpt_spec.specs.Entries.{AreBaseEntries, IsBaseEntryAt, base_length}
 use Rattle.mpt_spec.specs.Extended.{AreExtEntries, IsExtEntryAt, ext_length}
 use Rattle.mpt_spec.specs.Table.{IsHeaderAt, IsConfigurationTable, base_length_at, ext_length_at, count_at, base_end, ext_end}
 use Rattle.mpt_spec.specs.Canonical.{IsLawfulExt, IsWellFormedTable, base_size, ext_size}
-use Rattle.mpt_spec.specs.Image.{base_bytes, ext_bytes, header_bytes, base_table_bytes, table_bytes, checksum_of}
-use Rattle.mpt_laws.specs.Values.{IsBaseValue, IsExtValue, IsTableValue}
-use Rattle.mpt_laws.proofs.ByteLemmas.{slice_index-behind, number_at-behind, part-behind, take-append_whole, number_at-to_le_bytes_2, number_at-to_le_bytes_4, sum-cell, sealed}
-use Rattle.mpt_laws.proofs.WrittenLemmas.{IsBaseEntryAt-written, IsExtEntryAt-written}
+use Rattle.mpt_base.specs.Writing.{checksum_of}
+use Rattle.mpt_spec.specs.Image.{base_bytes, ext_bytes, header_bytes, base_table_bytes, table_bytes}
+use Rattle.mpt_spec.specs.Values.{IsBaseValue, IsExtValue, IsTableValue}
+use Rattle.mpt_spec.proofs.ByteLemmas.{slice_index-behind, number_at-behind, part-behind, take-append_whole, number_at-to_le_bytes_2, number_at-to_le_bytes_4, sum-cell, sealed}
+use Rattle.mpt_spec.proofs.WrittenLemmas.{IsBaseEntryAt-written, IsExtEntryAt-written}
 
 -- entries of any kind: what is spelled one after another stands end to end
 module _ {E : Type 0} (At : E → List ℕ → ℕ → Type 0) (size : E → ℕ) (bytes : E → List ℕ) (Value : E → Type 0) (Are : List E → List ℕ → ℕ → ℕ → Type 0)
@@ -49,15 +50,15 @@ module _ {E : Type 0} (At : E → List ℕ → ℕ → Type 0) (size : E → ℕ
       length-append (bytes e) (flat_map bytes es) ∙ (omega (arith, long e v.0)) ∙ sym (sum_by-cons size e es)
 
 pub length-base_bytes : (e : Base) → IsBaseValue e → length (base_bytes e) ≡ base_length e
-length-base_bytes (base.Processor e) v = omega (arith, v.reserved.size)
-length-base_bytes (base.Bus e) v = omega (arith, v.name.size)
+length-base_bytes (base.Processor e) v = omega (arith, v.reserved.0)
+length-base_bytes (base.Bus e) v = omega (arith, v.name.0)
 length-base_bytes (base.IoApic e) v = refl
 length-base_bytes (base.IoInt e) v = refl
 length-base_bytes (base.LocalInt e) v = refl
 
 pub length-ext_bytes : (e : Ext) → IsExtValue e → length (ext_bytes e) ≡ ext_length e
 length-ext_bytes (ext.Space e) v = refl
-length-ext_bytes (ext.Hierarchy e) v = omega (arith, v.reserved.size)
+length-ext_bytes (ext.Hierarchy e) v = omega (arith, v.reserved.0)
 length-ext_bytes (ext.Modifier e) v = refl
 length-ext_bytes (ext.Opaque e) v = omega arith
 
@@ -115,14 +116,14 @@ header-written t base_len ext_len checksum ext_checksum before rest image at v b
     let from_product : image ≡ before ++ front ++ t.oem ++ (t.product ++ (back ++ rest)) = from_oem ∙ sym (append_assoc (before ++ front) t.oem (t.product ++ (back ++ rest))) in
     let from_back : image ≡ before ++ front ++ t.oem ++ t.product ++ (back ++ rest) = from_product ∙ sym (append_assoc (before ++ front ++ t.oem) t.product (back ++ rest)) in
     let oem_at : length (before ++ front) ≡ at + 8 = length-append before front ∙ omega arith in
-    let product_at : length (before ++ front ++ t.oem) ≡ at + 16 = length-append (before ++ front) t.oem ∙ omega (arith, v.oem.size) in
-    let back_at : length (before ++ front ++ t.oem ++ t.product) ≡ at + 28 = length-append (before ++ front ++ t.oem) t.product ∙ omega (arith, v.product.size) in
+    let product_at : length (before ++ front ++ t.oem) ≡ at + 16 = length-append (before ++ front) t.oem ∙ omega (arith, v.oem.0) in
+    let back_at : length (before ++ front ++ t.oem ++ t.product) ≡ at + 28 = length-append (before ++ front ++ t.oem) t.product ∙ omega (arith, v.product.0) in
     record {
       header = record {
         signature = part-behind 4 image before (front ++ (t.oem ++ (t.product ++ (back ++ rest)))) at 0 all (omega arith);
         revision = sym (slice_index-behind image before (front ++ (t.oem ++ (t.product ++ (back ++ rest)))) (at + 6) 6 all (omega arith));
-        oem = sym (part-behind 8 image (before ++ front) (t.oem ++ (t.product ++ (back ++ rest))) (at + 8) 0 from_oem (omega arith) ∙ take-append_whole 8 t.oem (t.product ++ (back ++ rest)) v.oem.size);
-        product = sym (part-behind 12 image (before ++ front ++ t.oem) (t.product ++ (back ++ rest)) (at + 16) 0 from_product (omega arith) ∙ take-append_whole 12 t.product (back ++ rest) v.product.size);
+        oem = sym (part-behind 8 image (before ++ front) (t.oem ++ (t.product ++ (back ++ rest))) (at + 8) 0 from_oem (omega arith) ∙ take-append_whole 8 t.oem (t.product ++ (back ++ rest)) v.oem.0);
+        product = sym (part-behind 12 image (before ++ front ++ t.oem) (t.product ++ (back ++ rest)) (at + 16) 0 from_product (omega arith) ∙ take-append_whole 12 t.product (back ++ rest) v.product.0);
         oem_table = sym (number_at-behind 4 image (before ++ front ++ t.oem ++ t.product) (back ++ rest) (at + 28) 0 from_back (omega arith) ∙ number_at-to_le_bytes_4 t.oem_table v.oem_table);
         oem_size = sym (number_at-behind 2 image (before ++ front ++ t.oem ++ t.product) (back ++ rest) (at + 32) 4 from_back (omega arith) ∙ number_at-to_le_bytes_2 t.oem_size v.oem_size);
         local_address = sym (number_at-behind 4 image (before ++ front ++ t.oem ++ t.product) (back ++ rest) (at + 36) 8 from_back (omega arith) ∙ number_at-to_le_bytes_4 t.local_address v.local_address);
@@ -148,7 +149,7 @@ length-table_bytes t v w =
     let ext_part : List ℕ = flat_map ext_bytes t.ext in
     let checksum : ℕ = checksum_of (base_table_bytes t 0 ext_part) in
     let header : List ℕ = header_bytes t (44 + length entries) (length ext_part) checksum (checksum_of ext_part) in
-    let header_long : length header ≡ 44 = length-header t (44 + length entries) (length ext_part) checksum (checksum_of ext_part) v.oem.size v.product.size in
+    let header_long : length header ≡ 44 = length-header t (44 + length entries) (length ext_part) checksum (checksum_of ext_part) v.oem.0 v.product.0 in
     length-append (header ++ entries) ext_part ∙ omega (arith, header_long, length-append header entries, length-base_part t.base v.base, length-ext_part t.ext v.ext w.lawful)
 
 -- a base entry has at least one byte
@@ -186,7 +187,7 @@ IsConfigurationTable-written t before after image at v w spelled here =
     let header : List ℕ = header_bytes t base_len (length ext_part) checksum (checksum_of ext_part) in
     let entries_long : length entries ≡ sum_by base_length t.base = length-base_part t.base v.base in
     let ext_long : length ext_part ≡ sum_by ext_length t.ext = length-ext_part t.ext v.ext w.lawful in
-    let header_long : length header ≡ 44 = length-header t base_len (length ext_part) checksum (checksum_of ext_part) v.oem.size v.product.size in
+    let header_long : length header ≡ 44 = length-header t base_len (length ext_part) checksum (checksum_of ext_part) v.oem.0 v.product.0 in
     let base_table : image ≡ before ++ (header ++ entries ++ (ext_part ++ after)) = spelled ∙ ap (λ x. before ++ x) (append_assoc (header ++ entries) ext_part after) in
     let all : image ≡ before ++ (header ++ (entries ++ (ext_part ++ after))) = base_table ∙ ap (λ x. before ++ x) (append_assoc header entries (ext_part ++ after)) in
     let from_entries : image ≡ before ++ header ++ (entries ++ (ext_part ++ after)) = all ∙ sym (append_assoc before header (entries ++ (ext_part ++ after))) in

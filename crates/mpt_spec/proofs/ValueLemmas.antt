@@ -17,10 +17,11 @@ use Rattle.mpt_spec.specs.Pointer.{IsFloatingPointer}
 use Rattle.mpt_spec.specs.Entries.{IsInterruptAt, IsBaseEntryAt, AreBaseEntries, base_length}
 use Rattle.mpt_spec.specs.Extended.{IsExtEntryAt, AreExtEntries, ext_length}
 use Rattle.mpt_spec.specs.Table.{base_end, ext_end, IsConfigurationTable, IsBodyOf, Describes}
-use Rattle.mpt_laws.specs.Values.{IsByteList, AreBytes, IsInterruptValue, IsBaseValue, IsExtValue, IsPointerValue, IsTableValue, IsBodyValue, IsTablesValue}
+use Rattle.mpt_base.specs.Bytes.{IsByteList}
+use Rattle.mpt_spec.specs.Values.{IsInterruptValue, IsBaseValue, IsExtValue, IsPointerValue, IsTableValue, IsBodyValue, IsTablesValue}
 use Rattle.mpt_spec.proofs.EntryLemmas.{AreBaseEntries-le, AreExtEntries-le}
-use Rattle.mpt_laws.proofs.SpellingLemmas.{length-part, IsByteList-part}
-use Rattle.mpt_laws.proofs.WellFormedLemmas.{Describes-below_4_gib}
+use Rattle.mpt_spec.proofs.SpellingLemmas.{length-part, IsByteList-part}
+use Rattle.mpt_spec.proofs.WellFormedLemmas.{Describes-below_4_gib}
 
 module _ (image : List ℕ) (b : IsByteList image) where
   byte_value : (x at : ℕ) → x ≡ slice_index image at → x < 256
@@ -47,8 +48,8 @@ module _ (image : List ℕ) (b : IsByteList image) where
         b (suc (suc (suc (suc (suc (suc (suc at))))))),
       )
 
-  part_value : (xs : List ℕ) (at n : ℕ) → xs ≡ part image at n → at + n ≤ length image → AreBytes xs n
-  part_value xs at n e h = record { size = ap length e ∙ length-part image at n h; below = subst (λ x. IsByteList x) (sym e) (IsByteList-part image at n b) }
+  part_value : (xs : List ℕ) (at n : ℕ) → xs ≡ part image at n → at + n ≤ length image → (length xs ≡ n) × IsByteList xs
+  part_value xs at n e h = (ap length e ∙ length-part image at n h, subst (λ x. IsByteList x) (sym e) (IsByteList-part image at n b))
 
   interrupt_value : (n : ℕ) (e : IntEntry) (at : ℕ) → IsInterruptAt n e image at → IsInterruptValue e
   interrupt_value n e at h = record {
@@ -97,7 +98,7 @@ module _ (image : List ℕ) (b : IsByteList image) where
     flags = byte_value e.flags (at + 3) h.flags;
     ranges = value_4 e.ranges (at + 4) h.ranges;
   }
-  ext_value (ext.Opaque e) at i h = record { kind = byte_value e.kind at h.type_byte; rest = (part_value e.rest (at + 2) (length e.rest) h.rest (omega arith)).below }
+  ext_value (ext.Opaque e) at i h = record { kind = byte_value e.kind at h.type_byte; rest = (part_value e.rest (at + 2) (length e.rest) h.rest (omega arith)).1 }
 
   base_values : (es : List Base) (from to : ℕ) → to ≤ length image → AreBaseEntries es image from to → AllByRecursion IsBaseValue es
   base_values [] from to i h = tt

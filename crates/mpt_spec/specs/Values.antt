@@ -1,9 +1,9 @@
 -- The values of the types: in a definition a field is any number, so a law over every entry has as its premise that its
 -- numbers fit their fields, a byte below 256 and so on (MultiProcessor Specification 1.4, figures 4-2 to 4-11).
---     IsByteList bytes, AreBytes bytes n   bytes, n bytes
 --     IsBaseValue e, IsExtValue e, IsPointerValue p, IsTableValue t, IsTablesValue tables   the fields fit
-use Rattle.std.specs.Prelude.{◌≡◌, ℕ, ◌^◌, ◌<◌, List, length, slice_index}
+use Rattle.std.specs.Prelude.{◌≡◌, ◌^◌, ◌<◌, length}
 use Rattle.std.specs.List.{AllByRecursion}
+use Rattle.mpt_base.specs.Bytes.{IsByteList}
 use Rattle.mpt_spec.specs.declared.pointer.Pointer.{Pointer}
 use Rattle.mpt_spec.specs.declared.entry.Processor.{Processor}
 use Rattle.mpt_spec.specs.declared.entry.Bus.{Bus}
@@ -22,15 +22,6 @@ use Rattle.mpt_spec.specs.declared.tables.Body.{Body}
 use Rattle.mpt_spec.specs.declared.tables.Body.TheVariants as body
 use Rattle.mpt_spec.specs.declared.tables.Tables.{Tables}
 
--- all members are bytes
-abbrev pub IsByteList : List ℕ → Type 0
-IsByteList bytes = (i : ℕ) → slice_index bytes i < 256
-
--- a list of n bytes
-pub record AreBytes (bytes : List ℕ) (n : ℕ) : Type 0 where
-  pub size : length bytes ≡ n
-  pub below : IsByteList bytes
-
 -- a processor entry
 pub record IsProcessorValue (e : Processor) : Type 0 where
   pub apic : e.apic < 256
@@ -38,12 +29,12 @@ pub record IsProcessorValue (e : Processor) : Type 0 where
   pub flags : e.flags < 256
   pub signature : e.signature < 2 ^ 32
   pub features : e.features < 2 ^ 32
-  pub reserved : AreBytes e.reserved 8
+  pub reserved : (length e.reserved ≡ 8) × IsByteList e.reserved
 
 -- a bus entry
 pub record IsBusValue (e : Bus) : Type 0 where
   pub id : e.id < 256
-  pub name : AreBytes e.name 6
+  pub name : (length e.name ≡ 6) × IsByteList e.name
 
 -- an I/O APIC entry
 pub record IsIoApicValue (e : IoApic) : Type 0 where
@@ -81,7 +72,7 @@ pub record IsHierarchyValue (e : Hierarchy) : Type 0 where
   pub bus : e.bus < 256
   pub info : e.info < 256
   pub parent : e.parent < 256
-  pub reserved : AreBytes e.reserved 3
+  pub reserved : (length e.reserved ≡ 3) × IsByteList e.reserved
 
 -- a compatibility bus address space modifier entry
 pub record IsModifierValue (e : Modifier) : Type 0 where
@@ -105,13 +96,13 @@ IsExtValue (ext.Opaque e) = IsOpaqueValue e
 pub record IsPointerValue (p : Pointer) : Type 0 where
   pub address : p.address < 2 ^ 32
   pub revision : p.revision < 256
-  pub features : AreBytes p.features 5
+  pub features : (length p.features ≡ 5) × IsByteList p.features
 
 -- a configuration table
 pub record IsTableValue (t : Table) : Type 0 where
   pub revision : t.revision < 256
-  pub oem : AreBytes t.oem 8
-  pub product : AreBytes t.product 12
+  pub oem : (length t.oem ≡ 8) × IsByteList t.oem
+  pub product : (length t.product ≡ 12) × IsByteList t.product
   pub oem_table : t.oem_table < 2 ^ 32
   pub oem_size : t.oem_size < 2 ^ 16
   pub local_address : t.local_address < 2 ^ 32

@@ -16,12 +16,13 @@ use Rattle.mpt_spec.specs.Pointer.{IsFloatingPointer}
 use Rattle.mpt_spec.specs.Search.{word_at, areas_of, places_in, search_places}
 use Rattle.mpt_spec.specs.Table.{IsBodyOf, Describes}
 use Rattle.mpt_spec.specs.Canonical.{IsWellFormedBody, HasBlockPlace, FitsInImage, block_size}
-use Rattle.mpt_spec.specs.Image.{table_bytes, block_bytes, pointer_bytes, overlay, image_of}
-use Rattle.mpt_laws.specs.Values.{IsBodyValue, IsTablesValue}
-use Rattle.mpt_laws.proofs.ByteLemmas.{part-behind, part-before, take-append_whole, number_at-to_le_bytes_2}
+use Rattle.mpt_base.specs.Writing.{overlay}
+use Rattle.mpt_spec.specs.Image.{table_bytes, body_bytes, pointer_bytes, image_of}
+use Rattle.mpt_spec.specs.Values.{IsBodyValue, IsTablesValue}
+use Rattle.mpt_spec.proofs.ByteLemmas.{part-behind, part-before, take-append_whole, number_at-to_le_bytes_2}
 use Rattle.mpt_spec.proofs.CallerLemmas.{number_at-part}
-use Rattle.mpt_laws.proofs.WrittenLemmas.{IsFloatingPointer-written}
-use Rattle.mpt_laws.proofs.WrittenTableLemmas.{IsConfigurationTable-written, length-table_bytes}
+use Rattle.mpt_spec.proofs.WrittenLemmas.{IsFloatingPointer-written}
+use Rattle.mpt_spec.proofs.WrittenTableLemmas.{IsConfigurationTable-written, length-table_bytes}
 
 -- bytes that are put over an image, from a place on
 module _ (image bytes : List ℕ) (at : ℕ) (fits : at + length bytes ≤ length image) where
@@ -104,7 +105,7 @@ IsWrittenImage-describes tables image v f w =
 -- the image over these bytes
 abbrev pub image_over : List ℕ → Tables → List ℕ
 image_over bytes tables =
-    overlay (overlay (overlay bytes 0x40E (to_le_bytes w16 (tables.at / 16))) tables.at (pointer_bytes tables.pointer)) tables.pointer.address (block_bytes tables.body)
+    overlay (overlay (overlay bytes 0x40E (to_le_bytes w16 (tables.at / 16))) tables.at (pointer_bytes tables.pointer)) tables.pointer.address (body_bytes tables.body)
 
 -- the segment and the floating pointer over an image
 record HasSegmentAndPointer (tables : Tables) (image : List ℕ) : Type 0 where
@@ -161,7 +162,7 @@ image_over-written bytes tables (body.Default n) named size v f =
     let h : HasSegmentAndPointer tables image = segment_and_pointer bytes tables size v f in
     let formed : IsWellFormedBody (body.Default n) tables.pointer = subst (λ b. IsWellFormedBody b tables.pointer) named f.well_formed.body in
     let same : image ≡ image_over bytes tables =
-    sym (take-append-drop tables.pointer.address image) ∙ sym (nothing_over image tables.pointer.address) ∙ ap (λ b. overlay image tables.pointer.address (block_bytes b)) (sym named) in
+    sym (take-append-drop tables.pointer.address image) ∙ sym (nothing_over image tables.pointer.address) ∙ ap (λ b. overlay image tables.pointer.address (body_bytes b)) (sym named) in
     let written : IsWrittenImage tables image = record {
       size = h.size;
       segment = h.segment;
@@ -175,7 +176,7 @@ image_over-written bytes tables (body.Default n) named size v f =
 image_over-written bytes tables (body.Listed t) listed size v f =
     let image : List ℕ = overlay (overlay bytes 0x40E (to_le_bytes w16 (tables.at / 16))) tables.at (pointer_bytes tables.pointer) in
     let h : HasSegmentAndPointer tables image = segment_and_pointer bytes tables size v f in
-    let same : overlay image tables.pointer.address (table_bytes t) ≡ image_over bytes tables = ap (λ b. overlay image tables.pointer.address (block_bytes b)) (sym listed) in
+    let same : overlay image tables.pointer.address (table_bytes t) ≡ image_over bytes tables = ap (λ b. overlay image tables.pointer.address (body_bytes b)) (sym listed) in
     subst (λ x. IsWrittenImage tables x) same (with_table t tables image listed v f h)
 
 length-zeros : (n : ℕ) → length {A = ℕ} (replicate n 0) ≡ n

@@ -20,10 +20,11 @@ use Rattle.mpt_spec.specs.Pointer.{IsFloatingPointer}
 use Rattle.mpt_spec.specs.Entries.{IsInterruptAt, IsBaseEntryAt, AreBaseEntries, base_length}
 use Rattle.mpt_spec.specs.Extended.{IsExtEntryAt, AreExtEntries, ext_length}
 use Rattle.mpt_spec.specs.Table.{base_length_at, ext_length_at, base_end, ext_end, IsConfigurationTable}
-use Rattle.mpt_spec.specs.Image.{interrupt_bytes, base_bytes, ext_bytes, header_bytes, base_table_bytes, table_bytes, pointer_with, pointer_bytes, checksum_of}
-use Rattle.mpt_laws.specs.Values.{IsByteList}
-use Rattle.mpt_laws.proofs.ByteLemmas.{take_whole, two_bytes, four_bytes, eight_bytes, sum-cell}
-use Rattle.mpt_laws.proofs.WrittenTableLemmas.{header_front, header_back, header-parts, length-header, sum-base_table}
+use Rattle.mpt_base.specs.Writing.{checksum_of}
+use Rattle.mpt_spec.specs.Image.{interrupt_bytes, base_bytes, ext_bytes, header_bytes, base_table_bytes, table_bytes, pointer_with, pointer_bytes}
+use Rattle.mpt_base.specs.Bytes.{IsByteList}
+use Rattle.mpt_spec.proofs.ByteLemmas.{take_whole, two_bytes, four_bytes, eight_bytes, sum-cell}
+use Rattle.mpt_spec.proofs.WrittenTableLemmas.{header_front, header_back, header-parts, length-header, sum-base_table}
 use Rattle.mpt_spec.proofs.CallerLemmas.{slice_index-part, number_at-part}
 
 pub length-part : (image : List ℕ) (at n : ℕ) → at + n ≤ length image → length (part image at n) ≡ n

@@ -18,7 +18,7 @@ use Rattle.mpt_spec.specs.Entries.{AreBaseEntries, base_length}
 use Rattle.mpt_spec.specs.Extended.{AreExtEntries, IsExtEntryAt, ext_length}
 use Rattle.mpt_spec.specs.Table.{base_length_at, ext_length_at, base_end, ext_end, IsConfigurationTable, IsBodyOf, Describes}
 use Rattle.mpt_spec.specs.Canonical.{IsLawfulExt, IsWellFormedTable, IsWellFormedBody, IsWellFormed}
-use Rattle.mpt_laws.specs.Values.{IsByteList}
+use Rattle.mpt_base.specs.Bytes.{IsByteList}
 
 -- a number of two bytes
 number_at_2-low : (bytes : List ℕ) (at : ℕ) → IsByteList bytes → number_at 2 bytes at < 65536

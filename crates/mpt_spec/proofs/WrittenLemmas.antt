@@ -20,9 +20,10 @@ use Rattle.mpt_spec.specs.Pointer.{IsFloatingPointer}
 use Rattle.mpt_spec.specs.Entries.{IsProcessorAt, IsBusAt, IsIoApicAt, IsInterruptAt, IsBaseEntryAt}
 use Rattle.mpt_spec.specs.Extended.{IsSpaceAt, IsHierarchyAt, IsModifierAt, IsOpaqueAt, IsExtEntryAt}
 use Rattle.mpt_spec.specs.Canonical.{IsLawfulExt}
-use Rattle.mpt_spec.specs.Image.{base_bytes, ext_bytes, interrupt_bytes, pointer_with, pointer_bytes, checksum_of}
-use Rattle.mpt_laws.specs.Values.{IsProcessorValue, IsBusValue, IsIoApicValue, IsInterruptValue, IsBaseValue, IsSpaceValue, IsHierarchyValue, IsModifierValue, IsExtValue, IsPointerValue}
-use Rattle.mpt_laws.proofs.ByteLemmas.{slice_index-append, number_at-append, part-append, take-append_whole, take_whole, sum-cell, sealed, number_at-to_le_bytes_2, number_at-to_le_bytes_4, number_at-to_le_bytes_8}
+use Rattle.mpt_base.specs.Writing.{checksum_of}
+use Rattle.mpt_spec.specs.Image.{base_bytes, ext_bytes, interrupt_bytes, pointer_with, pointer_bytes}
+use Rattle.mpt_spec.specs.Values.{IsProcessorValue, IsBusValue, IsIoApicValue, IsInterruptValue, IsBaseValue, IsSpaceValue, IsHierarchyValue, IsModifierValue, IsExtValue, IsPointerValue}
+use Rattle.mpt_spec.proofs.ByteLemmas.{slice_index-append, number_at-append, part-append, take-append_whole, take_whole, sum-cell, sealed, number_at-to_le_bytes_2, number_at-to_le_bytes_4, number_at-to_le_bytes_8}
 
 module _ (before after : List ℕ) where
   -- the first byte behind some bytes, and the byte, the number and the part at a place behind them
@@ -50,13 +51,13 @@ module _ (before after : List ℕ) where
         flags = byte bytes 3;
         signature = number 4 bytes 4 e.signature (number_at-to_le_bytes_4 e.signature v.signature);
         features = number 4 bytes 8 e.features (number_at-to_le_bytes_4 e.features v.features);
-        reserved = field bytes 12 8 e.reserved (take-append_whole 8 e.reserved after v.reserved.size);
+        reserved = field bytes 12 8 e.reserved (take-append_whole 8 e.reserved after v.reserved.0);
       }
 
   bus-written : (e : Bus) → IsBusValue e → IsBusAt e (before ++ (base_bytes (base.Bus e) ++ after)) (length before)
   bus-written e v =
       let bytes : List ℕ = base_bytes (base.Bus e) ++ after in
-      record { type_byte = first bytes; id = byte bytes 1; name = field bytes 2 6 e.name (take-append_whole 6 e.name after v.name.size) }
+      record { type_byte = first bytes; id = byte bytes 1; name = field bytes 2 6 e.name (take-append_whole 6 e.name after v.name.0) }
 
   io_apic-written : (e : IoApic) → IsIoApicValue e → IsIoApicAt e (before ++ (base_bytes (base.IoApic e) ++ after)) (length before)
   io_apic-written e v =
@@ -110,7 +111,7 @@ module _ (before after : List ℕ) where
         bus = byte bytes 2;
         info = byte bytes 3;
         parent = byte bytes 4;
-        reserved = field bytes 5 3 e.reserved (take-append_whole 3 e.reserved after v.reserved.size);
+        reserved = field bytes 5 3 e.reserved (take-append_whole 3 e.reserved after v.reserved.0);
       }
 
   modifier-written : (e : Modifier) → IsModifierValue e → IsModifierAt e (before ++ (ext_bytes (ext.Modifier e) ++ after)) (length before)
@@ -150,11 +151,11 @@ IsExtEntryAt-written e before after at v lawful here = subst (λ x. IsExtEntryAt
 -- the bytes of a floating pointer are the floating pointer
 pub IsFloatingPointer-written : (p : Pointer) → IsPointerValue p → IsFloatingPointer p (pointer_bytes p)
 IsFloatingPointer-written p v = record {
-  size = omega (arith, v.features.size);
+  size = omega (arith, v.features.0);
   signature = refl;
   address = sym (number_at-to_le_bytes_4 p.address v.address);
   paragraphs = refl;
   revision = refl;
-  features = sym (take_whole 5 p.features v.features.size);
+  features = sym (take_whole 5 p.features v.features.0);
   checksum = sealed (sum (pointer_with p 0)) (sum (pointer_bytes p)) (checksum_of (pointer_with p 0)) (sum-cell (codes "_MP_" ++ to_le_bytes w32 p.address ++ 1 ∷ p.revision ∷ []) p.features (checksum_of (pointer_with p 0))) refl;
 }
