@@ -1,0 +1,6 @@
+pub mod ListLemmas
+pub mod PlatformLemmas
+pub mod RouteLemmas
+pub mod StepLemmas
+pub mod PinLemmas
+pub mod ReasonLemmas
