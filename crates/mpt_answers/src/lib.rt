@@ -4,8 +4,10 @@
 
 mod elcr;
 mod finding_lines;
+mod laws;
 mod route_lines;
 
 pub use elcr::read_elcr;
 pub use finding_lines::print_findings;
+pub use laws::elcr_words;
 pub use route_lines::print_routes;

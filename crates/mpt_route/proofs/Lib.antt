@@ -4,3 +4,4 @@ pub mod RouteLemmas
 pub mod StepLemmas
 pub mod PinLemmas
 pub mod ReasonLemmas
+pub mod SizeLemmas

@@ -1,6 +1,6 @@
 //! The platform: what a kernel asks of the tables, the entries by kind.
 
-ghost use Rattle.std.specs.Prelude.{◌≡◌, IfOk, find};
+ghost use Rattle.std.specs.Prelude.{◌≡◌, ◌<◌, ◌^◌, length, IfOk, find};
 ghost use Rattle.mpt_route.specs.Platform.{platform_of, platform_of_body, is_boot_processor, boot_processor_of};
 ghost use Rattle.mpt_spec.specs.Canonical.{IsWellFormed};
 ghost use Rattle.mpt_spec.specs.declared.tables.Body.TheVariants as body;
@@ -33,16 +33,22 @@ pub struct Platform {
 /// It takes memory for the lists alone, and fails only where that runs out.
 pub fn platform_of(alloc: Global, tables: &Tables) -> Result<Platform, NoMemory>
     requires { IsWellFormed tables.now }
-    ensures { IfOk result (λ p. p ≡ platform_of tables.now) }
+    ensures platform { IfOk result (λ p. p ≡ platform_of tables.now) }
+    ensures few { IfOk result (λ p. length p.ints < 2 ^ 16) }
 {
     let imcr = tables.pointer.features[1] / 128 % 2 == 1;
-    let made = match &tables.body {
-        Body::Default(number) => default_platform(alloc, *number, imcr),
-        Body::Listed(table) => listed_platform(alloc, table, imcr),
-    };
-    match made {
+    match platform_of_body(alloc, &tables.body, imcr) {
         Ok(platform) => Ok(platform),
         Err(_) => Err(NoMemory),
+    }
+}
+
+fn platform_of_body(alloc: Global, body: &Body, imcr: bool) -> Result<Platform, AllocError>
+    ensures { IfOk result (λ p. p ≡ platform_of_body imcr body.now) }
+{
+    match body {
+        Body::Default(number) => default_platform(alloc, *number, imcr),
+        Body::Listed(table) => listed_platform(alloc, table, imcr),
     }
 }
 
