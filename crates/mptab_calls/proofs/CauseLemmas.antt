@@ -1,7 +1,7 @@
 -- What follows from an answer that was given: each status's cause, that it comes whole, and that no failure is hidden.
 use Rattle.std.proofs.Common.{◌≡◌, ℕ, List, Option, sym, subst, ◌∙◌, inl, inr}
 use Rattle.mpt_base.specs.Outside.{Files}
-use Rattle.mptab_calls.specs.Forms.{Form, IsForm, IsStill, IsAny, Show}
+use Rattle.mptab_calls.specs.Forms.{Form, IsForm, IsStill, IsAny}
 use Rattle.mptab_calls.specs.Commands.{IsRefused, IsText}
 use Rattle.mptab_calls.specs.Walk.{Outside, IsDueOf, Answers, AnswersWhole, IsComplete, TellsFailures, AsksAtMost, IsNoForm}
 use Rattle.mptab_calls.specs.Causes.{Cause, Done, Usage, NoFile, CannotRead, CannotWrite, Refused, NoMemory, TooLarge}
@@ -40,7 +40,7 @@ Answers-failures listed told before after words result (s, t, inr (form, l, is, 
 -- ---- each form needs no threads
 
 every_form_still : (form : Form) → IsStill form
-every_form_still (Show image) = tt
+every_form_still form = tt
 
 no_form-still : (words : List (List ℕ)) → IsNoForm IsAny words → IsNoForm IsStill words
 no_form-still words none form listed is = none form tt is

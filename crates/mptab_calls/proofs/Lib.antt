@@ -1,3 +1,4 @@
 pub mod DeliveryLemmas
 pub mod AnswerLemmas
 pub mod CauseLemmas
+pub mod FileLemmas

@@ -4,8 +4,8 @@
 use Rattle.std.specs.Prelude.{◌≡◌, ℕ, List, Option, ⊤}
 use Rattle.mpt_base.specs.Outside.{Files, Rose}
 use Rattle.mptab_calls.specs.declared.ending.Ending.{Ending}
-use Rattle.mptab_calls.specs.declared.ending.Ending.TheVariants.{Absent, TooLarge, Unread, NoPointer, Fault, NoMemory}
-use Rattle.mptab_calls.specs.Texts.{no_file_line, cannot_read_line, no_memory_line, too_large_line, no_pointer_line, fault_line}
+use Rattle.mptab_calls.specs.declared.ending.Ending.TheVariants.{Absent, TooLarge, Unread, NoPointer, Fault, BadLine, Unfit, NoMemory}
+use Rattle.mptab_calls.specs.Texts.{no_file_line, cannot_read_line, no_memory_line, too_large_line, no_pointer_line, fault_line, bad_line_line, unfit_line}
 use Rattle.mptab_calls.specs.Forms.{Named, IsRead}
 use Rattle.mptab_calls.specs.Commands.{IsRefused}
 use Rattle.mptab_calls.specs.Walk.{IsAbsent, IsTooLarge}
@@ -15,6 +15,8 @@ ending_status Absent = 3
 ending_status Unread = 4
 ending_status NoPointer = 6
 ending_status (Fault f) = 7
+ending_status (BadLine n why) = 8
+ending_status (Unfit size) = 8
 ending_status NoMemory = 9
 ending_status (TooLarge size) = 10
 
@@ -23,6 +25,8 @@ ending_text name Absent = no_file_line name
 ending_text name Unread = cannot_read_line name
 ending_text name NoPointer = no_pointer_line
 ending_text name (Fault f) = fault_line f.at f.why
+ending_text name (BadLine n why) = bad_line_line n why
+ending_text name (Unfit size) = unfit_line size
 ending_text name NoMemory = no_memory_line
 ending_text name (TooLarge size) = too_large_line name size
 
@@ -44,3 +48,5 @@ IsEnding told s file NoMemory = IsRead told file (λ bytes. ⊤) × (s.faults_af
 IsEnding told s file (TooLarge size) = IsTooLarge told file size × (s.faults_after ≡ s.faults)
 IsEnding told s file NoPointer = IsRefused told file 6 no_pointer_line × (s.faults_after ≡ s.faults)
 IsEnding told s file (Fault f) = IsRefused told file 7 (fault_line f.at f.why) × (s.faults_after ≡ s.faults)
+IsEnding told s file (BadLine n why) = IsRefused told file 8 (bad_line_line n why) × (s.faults_after ≡ s.faults)
+IsEnding told s file (Unfit size) = IsRefused told file 8 (unfit_line size) × (s.faults_after ≡ s.faults)

@@ -5,3 +5,4 @@ pub mod Walk
 pub mod Causes
 pub mod Ending
 pub mod Command
+pub mod File

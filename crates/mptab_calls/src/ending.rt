@@ -3,14 +3,17 @@
 ghost use Rattle.std.specs.Prelude.{◌≡◌, ◌%◌};
 ghost use Rattle.mpt_base.specs.Reason.{reason_number};
 ghost use Rattle.mpt_listing.specs.Listing.{hex, hex_digit};
-ghost use Rattle.mptab_calls.specs.Texts.{reason_name, too_large_line, fault_line};
+ghost use Rattle.mptab_calls.specs.Texts.{reason_name, line_why_name, too_large_line, fault_line, bad_line_line, unfit_line};
 ghost use Rattle.mptab_calls.specs.Walk.{IsDelivered, outside};
 ghost use Rattle.mptab_calls.specs.Ending.{ending_status, ending_text};
 
 use crate::delivery::deliver_line;
-use crate::status::{CANNOT_READ, NO_FILE, NO_MEMORY, NO_POINTER, REFUSED, TOO_LARGE};
+use crate::status::{
+    CANNOT_READ, NO_FILE, NO_MEMORY, NO_POINTER, NOT_LISTED, REFUSED, TOO_LARGE,
+};
 use itoa::Buffer;
 use mpt_base::{Fault, Reason, Sink};
+use mpt_parse::LineWhy;
 
 /// Why the walk ends at a file.
 #[derive(Clone, Copy)]
@@ -25,6 +28,10 @@ pub(crate) enum Ending {
     NoPointer,
     /// The first fault of the image.
     Fault(Fault),
+    /// The first bad line of the listing, counted from 1, and why it is bad.
+    BadLine(u32, LineWhy),
+    /// The listing's tables have no place in an image; their block has this many bytes.
+    Unfit(u64),
     /// Memory ran out.
     NoMemory,
 }
@@ -42,6 +49,8 @@ pub(crate) fn refuse<O: Sink>(name: &str, ending: Ending, out: &mut O) -> u8
         }
         Ending::NoPointer => deliver_line(out, NO_POINTER, &[b"mptab: no floating pointer"]),
         Ending::Fault(fault) => refuse_fault(fault, out),
+        Ending::BadLine(number, why) => refuse_line(number, why, out),
+        Ending::Unfit(size) => refuse_unfit(size, out),
         Ending::NoMemory => deliver_line(out, NO_MEMORY, &[b"mptab: no memory"]),
         Ending::TooLarge(size) => refuse_size(name, size, out),
     }
@@ -63,6 +72,49 @@ fn refuse_size<O: Sink>(name: &str, size: u64, out: &mut O) -> u8
             b" ",
             digits.as_bytes(),
         ],
+    )
+}
+
+fn refuse_line<O: Sink>(number: u32, why: LineWhy, out: &mut O) -> u8
+    ensures { IsDelivered (outside 0 0 0 (O.faults out.old) (O.written out.old))
+        (outside 0 0 0 (O.faults out.new) (O.written out.new))
+        result 8 (bad_line_line number why) }
+{
+    let mut buffer = Buffer::new();
+    let digits = buffer.format(number);
+    deliver_line(
+        out,
+        NOT_LISTED,
+        &[
+            b"mptab: listing line ",
+            digits.as_bytes(),
+            b" ",
+            line_why_name(why),
+        ],
+    )
+}
+
+fn line_why_name(why: LineWhy) -> &'static [u8]
+    ensures { result.now ≡ line_why_name why }
+{
+    match why {
+        LineWhy::Form => b"Form",
+        LineWhy::Early => b"Early",
+        LineWhy::Late => b"Late",
+    }
+}
+
+fn refuse_unfit<O: Sink>(size: u64, out: &mut O) -> u8
+    ensures { IsDelivered (outside 0 0 0 (O.faults out.old) (O.written out.old))
+        (outside 0 0 0 (O.faults out.new) (O.written out.new))
+        result 8 (unfit_line size) }
+{
+    let mut buffer = Buffer::new();
+    let digits = buffer.format(size);
+    deliver_line(
+        out,
+        NOT_LISTED,
+        &[b"mptab: does not fit ", digits.as_bytes()],
     )
 }
 

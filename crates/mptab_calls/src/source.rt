@@ -10,6 +10,7 @@ ghost use Rattle.mptab_calls.specs.Command.{form_of, named_of};
 
 use crate::ending::Ending;
 use crate::image::take_image;
+use crate::listing::take_listing;
 use crate::words::Command;
 use mpt_base::Shelf;
 use mpt_table::Tables;
@@ -18,7 +19,10 @@ use std::alloc::Global;
 /// A file by what it is to be, and its name.
 #[derive(Clone, Copy)]
 pub(crate) enum Source<'a> {
+    /// An image.
     Image(&'a str),
+    /// A listing.
+    Listing(&'a str),
 }
 
 /// The file that gives the form its tables.
@@ -26,7 +30,11 @@ pub(crate) fn source_named<'a>(command: Command<'a>) -> Source<'a>
     ensures { named_of result ≡ source_of (form_of command.entry) }
 {
     match command {
-        Command::Show(image) => Source::Image(image),
+        Command::Show(image)
+        | Command::Audit(image)
+        | Command::Canon(image)
+        | Command::Route(image, _) => Source::Image(image),
+        Command::Build(listing) => Source::Listing(listing),
     }
 }
 
@@ -36,6 +44,7 @@ pub(crate) fn name_in<'a>(source: Source<'a>) -> &'a str
 {
     match source {
         Source::Image(name) => name,
+        Source::Listing(name) => name,
     }
 }
 
@@ -57,5 +66,6 @@ pub(crate) fn take<S: Shelf>(
 {
     match source {
         Source::Image(name) => take_image(alloc, name, shelf),
+        Source::Listing(name) => take_listing(alloc, name, shelf),
     }
 }
