@@ -29,9 +29,8 @@ use Rattle.mpt_laws.specs.Laws.{IsDescribed, HasFirstFault}
 use Rattle.mpt_laws.proofs.Judgment.{image-judged}
 use Rattle.mpt_laws.proofs.EntryJudgment.{Decided, decided-list}
 use Rattle.mpt_spec.proofs.WellFormedLemmas.{Describes-well_formed, Describes-below_4_gib}
-use Rattle.mptab_calls.specs.Texts.{fault_line, no_pointer_line, bad_line_line, unfit_line}
 use Rattle.mptab_calls.specs.Forms.{Form, Show, Audit, Canon, Build, Route, Named, Image, Listing, IsForm, IsAny, IsStill, source_of, files_of, name_of, limit_of, IsRead}
-use Rattle.mptab_calls.specs.Commands.{status_of, GivesTables, IsUnderstood, IsRefused, IsAnswerTo, IsText}
+use Rattle.mptab_calls.specs.Commands.{fault_line, no_pointer_line, bad_line_line, unfit_line, status_of, GivesTables, IsUnderstood, IsRefused, IsAnswerTo, IsText}
 use Rattle.mptab_calls.specs.Walk.{IsListed, IsNoForm}
 use Rattle.mptab_laws.specs.Laws.{AreBytesTold, HasOneText}
 
