@@ -11,8 +11,6 @@ mod mem_sink;
 mod numbers;
 mod out_sink;
 mod outside;
-#[cfg(test)]
-mod tests;
 mod writing;
 
 pub use fault::{Fault, Reason};

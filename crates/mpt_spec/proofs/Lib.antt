@@ -4,6 +4,8 @@ pub mod CallerLemmas
 pub mod TableLemmas
 pub mod FaultLemmas
 pub mod FirstFaultLemmas
+pub mod WindowLemmas
+pub mod TableWindowLemmas
 pub mod ByteLemmas
 pub mod WrittenLemmas
 pub mod WrittenTableLemmas
