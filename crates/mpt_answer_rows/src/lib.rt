@@ -1,0 +1,13 @@
+//! Routes and audit of whole tables: rows whose answers were worked out by hand from the rules. It
+//! holds tests and what they build tables of.
+#![tactic(auto)]
+
+#[cfg(test)]
+mod audits;
+#[cfg(test)]
+mod defaults;
+#[cfg(test)]
+mod routing;
+pub mod tables;
+#[cfg(test)]
+mod usual;
