@@ -1,5 +1,5 @@
 //! Routes and audit of whole tables: rows whose answers were worked out by hand from the rules. It
-//! holds tests and what they build tables of.
+//! holds tests alone.
 #![tactic(auto)]
 
 #[cfg(test)]
@@ -8,6 +8,7 @@ mod audits;
 mod defaults;
 #[cfg(test)]
 mod routing;
-pub mod tables;
+#[cfg(test)]
+mod tables;
 #[cfg(test)]
 mod usual;

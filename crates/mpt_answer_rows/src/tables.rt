@@ -1,19 +1,17 @@
 //! Tables of entries that are written out.
 
-ghost use Rattle.std.specs.Prelude.{◌≡◌, ◌↔◌, ◌-◌, ◌^◌, IsTrue, IfSome, min};
-ghost use Rattle.std.specs.List.{AllByRecursion};
-ghost use Rattle.mpt_spec.specs.Entries.{base_length};
-ghost use Rattle.mpt_spec.specs.Extended.{ext_length};
-ghost use Rattle.mpt_spec.specs.Canonical.{base_size, ext_size, IsLawfulExt, IsWellFormedTable, IsWellFormed};
+ghost use Rattle.std.specs.Prelude.{IfSome};
+ghost use Rattle.mpt_spec.specs.Canonical.{IsWellFormed};
 
 use mpt_spec::{
     Base, Body, Bus, Ext, Hierarchy, IntEntry, IoApic, Modifier, Pointer, Processor, Sequence,
     Space, Table, Tables,
 };
+use mpt_write::well_formed;
 use std::alloc::{AllocError, Global};
 
 /// A processor with a local APIC id and flags.
-pub fn cpu(apic: u8, flags: u8) -> Base {
+pub(crate) fn cpu(apic: u8, flags: u8) -> Base {
     Base::Processor(Processor {
         apic,
         version: 0x14,
@@ -25,12 +23,12 @@ pub fn cpu(apic: u8, flags: u8) -> Base {
 }
 
 /// A bus.
-pub fn bus(id: u8, name: [u8; 6]) -> Base {
+pub(crate) fn bus(id: u8, name: [u8; 6]) -> Base {
     Base::Bus(Bus { id, name })
 }
 
 /// An I/O APIC with an id and flags.
-pub fn io(id: u8, flags: u8) -> Base {
+pub(crate) fn io(id: u8, flags: u8) -> Base {
     Base::IoApic(IoApic {
         id,
         version: 0x11,
@@ -40,17 +38,17 @@ pub fn io(id: u8, flags: u8) -> Base {
 }
 
 /// An I/O interrupt: kind, flags, bus, IRQ, destination and pin.
-pub fn int(kind: u8, flags: u16, bus: u8, irq: u8, dest: u8, pin: u8) -> Base {
+pub(crate) fn int(kind: u8, flags: u16, bus: u8, irq: u8, dest: u8, pin: u8) -> Base {
     Base::IoInt(entry(kind, flags, bus, irq, dest, pin))
 }
 
 /// A local interrupt: kind, flags, bus, IRQ, destination and pin.
-pub fn lint(kind: u8, flags: u16, bus: u8, irq: u8, dest: u8, pin: u8) -> Base {
+pub(crate) fn lint(kind: u8, flags: u16, bus: u8, irq: u8, dest: u8, pin: u8) -> Base {
     Base::LocalInt(entry(kind, flags, bus, irq, dest, pin))
 }
 
 /// An interrupt entry.
-pub fn entry(kind: u8, flags: u16, bus: u8, irq: u8, dest: u8, pin: u8) -> IntEntry {
+pub(crate) fn entry(kind: u8, flags: u16, bus: u8, irq: u8, dest: u8, pin: u8) -> IntEntry {
     IntEntry {
         kind,
         flags,
@@ -63,7 +61,7 @@ pub fn entry(kind: u8, flags: u16, bus: u8, irq: u8, dest: u8, pin: u8) -> IntEn
 
 /// An extended entry that isn't opaque.
 #[derive(Clone, Copy)]
-pub enum Part {
+pub(crate) enum Part {
     /// A range of addresses: bus, address kind, first address, length.
     Space(u8, u8, u64, u64),
     /// A bus, information and its parent.
@@ -99,7 +97,7 @@ fn exts(alloc: Global, parts: &[Part]) -> Result<Vec<Ext>, AllocError> {
 }
 
 /// A floating pointer at F0000h with these feature bytes.
-pub fn pointer(features: [u8; 5]) -> Pointer {
+pub(crate) fn pointer(features: [u8; 5]) -> Pointer {
     Pointer {
         address: 0xF_0010,
         revision: 4,
@@ -108,7 +106,7 @@ pub fn pointer(features: [u8; 5]) -> Pointer {
 }
 
 /// The tables of a default configuration; `None` where there is none of this number.
-pub fn default_tables(number: u8, features: [u8; 4]) -> Option<Tables>
+pub(crate) fn default_tables(number: u8, features: [u8; 4]) -> Option<Tables>
     ensures { IfSome result (λ tables. IsWellFormed tables) }
 {
     let [second, third, fourth, fifth] = features;
@@ -123,7 +121,7 @@ pub fn default_tables(number: u8, features: [u8; 4]) -> Option<Tables>
 }
 
 /// Listed tables of these entries; `None` where memory runs out or the entries are too many.
-pub fn listed(alloc: Global, base: &[Base], parts: &[Part]) -> Option<Tables>
+pub(crate) fn listed(alloc: Global, base: &[Base], parts: &[Part]) -> Option<Tables>
     ensures { IfSome result (λ tables. IsWellFormed tables) }
 {
     let base = Vec::from_slice(alloc, base).ok()?;
@@ -132,7 +130,7 @@ pub fn listed(alloc: Global, base: &[Base], parts: &[Part]) -> Option<Tables>
 
 /// Listed tables of these entries, with feature byte 2 of the floating pointer and reserved byte 43 of
 /// the header.
-pub fn with_entries(
+pub(crate) fn with_entries(
     alloc: Global,
     base: Vec<Base>,
     parts: &[Part],
@@ -152,84 +150,14 @@ pub fn with_entries(
         base: Sequence::new(base),
         ext: Sequence::new(exts(alloc, parts).ok()?),
     };
-    if is_well_formed(&table) {
-        Some(tables_of(table, feature))
-    } else {
-        None
-    }
-}
-
-fn tables_of(table: Table, feature: u8) -> Tables
-    requires { IsWellFormedTable table }
-    ensures { IsWellFormed result }
-{
-    Tables {
+    let tables = Tables {
         at: 0xF_0000,
         pointer: pointer([0, feature, 0, 0, 0]),
         body: Body::Listed(table),
+    };
+    if well_formed(&tables) {
+        Some(tables)
+    } else {
+        None
     }
-}
-
-// whether the table is well formed
-fn is_well_formed(table: &Table) -> bool
-    ensures { IsTrue result ↔ IsWellFormedTable table.now }
-{
-    table.revision == 4
-        && are_lawful(table.ext.as_slice())
-        && base_size(table) <= 65535
-        && ext_size(table) <= 65535
-}
-
-fn is_lawful(entry: &Ext) -> bool
-    ensures { IsTrue result ↔ IsLawfulExt entry.now }
-{
-    match entry {
-        Ext::Opaque(opaque) => opaque.kind >= 131 && opaque.rest.as_slice().len() <= 253,
-        _ => true,
-    }
-}
-
-fn are_lawful(entries: &[Ext]) -> bool
-    ensures { IsTrue result ↔ AllByRecursion IsLawfulExt entries.now }
-{
-    entries.iter().all(|entry| is_lawful(entry))
-}
-
-fn base_length(entry: &Base) -> u64
-    ensures { result ≡ base_length entry.now }
-{
-    match entry {
-        Base::Processor(_) => 20,
-        _ => 8,
-    }
-}
-
-fn ext_length(entry: &Ext) -> u64
-    ensures { result ≡ min (ext_length entry.now) (2 ^ 64 - 1) }
-{
-    match entry {
-        Ext::Space(_) => 20,
-        Ext::Hierarchy(_) | Ext::Modifier(_) => 8,
-        Ext::Opaque(opaque) => (opaque.rest.as_slice().len() as u64).saturating_add(2),
-    }
-}
-
-fn base_size(table: &Table) -> u64
-    ensures { result ≡ min (base_size table.now) (2 ^ 64 - 1) }
-{
-    let mut size = 44u64;
-    for entry in table.base.as_slice() {
-        size = size.saturating_add(base_length(entry));
-    }
-    size
-}
-
-fn ext_size(table: &Table) -> u64
-    ensures { result ≡ min (ext_size table.now) (2 ^ 64 - 1) }
-{
-    let mut size = 0u64;
-    for entry in table.ext.as_slice() {
-        size = size.saturating_add(ext_length(entry));
-    }
-    size
 }

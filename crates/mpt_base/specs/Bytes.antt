@@ -1,5 +1,5 @@
 -- Numbers and checksums in bytes (MultiProcessor Specification 1.4, chapter 4). A byte is a number below 256.
-use Rattle.std.specs.Prelude.{◌≡◌, ℕ, zero, suc, ◌+◌, ◌*◌, ◌%◌, List, [], ◌∷◌, take, drop, sum, slice_index}
+use Rattle.std.specs.Prelude.{◌≡◌, ℕ, zero, suc, ◌+◌, ◌*◌, ◌%◌, ◌<◌, List, [], ◌∷◌, take, drop, sum, slice_index}
 
 -- the little-endian number of a list of bytes
 abbrev pub le_number : List ℕ → ℕ
@@ -18,3 +18,7 @@ number_at (suc n) bytes at = slice_index bytes at + 256 * number_at n bytes (suc
 -- the bytes have a right checksum: their sum is a multiple of 256
 abbrev pub SumsToZero : List ℕ → Type 0
 SumsToZero bytes = sum bytes % 256 ≡ 0
+
+-- all members are bytes
+abbrev pub IsByteList : List ℕ → Type 0
+IsByteList bytes = (i : ℕ) → slice_index bytes i < 256

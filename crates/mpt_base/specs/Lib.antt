@@ -7,3 +7,4 @@ pub mod NumberLaws
 pub mod OutSink
 pub mod Outside
 pub mod Reason
+pub mod Writing

@@ -1,14 +1,10 @@
 -- Laws of the numbers in bytes. A variable here ranges over every number, so that a byte is one below 256 by a premise.
-use Rattle.std.specs.Prelude.{◌≡◌, ℕ, ◌+◌, ◌^◌, ◌<◌, ◌≤◌, List, length, All}
-use Rattle.mpt_base.specs.Bytes.{le_number, number_at, part}
-
--- each is a byte
-abbrev pub AreBytes : List ℕ → Type 0
-AreBytes bytes = All (λ b. b < 256) bytes
+use Rattle.std.specs.Prelude.{◌≡◌, ℕ, ◌+◌, ◌^◌, ◌<◌, ◌≤◌, List, length}
+use Rattle.mpt_base.specs.Bytes.{le_number, number_at, part, IsByteList}
 
 -- a number has one spelling in bytes of each length
 abbrev pub HasOneSpelling : Type 0
-HasOneSpelling = (a b : List ℕ) → AreBytes a → AreBytes b → length a ≡ length b → le_number a ≡ le_number b → a ≡ b
+HasOneSpelling = (a b : List ℕ) → IsByteList a → IsByteList b → length a ≡ length b → le_number a ≡ le_number b → a ≡ b
 
 -- the number at a place is that of the bytes there
 abbrev pub IsNumberOfItsPart : Type 0
@@ -16,4 +12,4 @@ IsNumberOfItsPart = (n : ℕ) (bytes : List ℕ) (at : ℕ) → at + n ≤ lengt
 
 -- the number in n bytes is below 256 to the n
 abbrev pub IsBelowPower : Type 0
-IsBelowPower = (n : ℕ) (bytes : List ℕ) (at : ℕ) → AreBytes bytes → number_at n bytes at < 256 ^ n
+IsBelowPower = (n : ℕ) (bytes : List ℕ) (at : ℕ) → IsByteList bytes → number_at n bytes at < 256 ^ n

@@ -3,6 +3,7 @@
 #![tactic(auto)]
 
 mod fault;
+mod fields;
 mod file_shelf;
 mod laws;
 mod mem_shelf;
@@ -10,8 +11,7 @@ mod mem_sink;
 mod numbers;
 mod out_sink;
 mod outside;
-#[cfg(test)]
-mod tests;
+mod writing;
 
 pub use fault::{Fault, Reason};
 pub use file_shelf::FileShelf;
@@ -21,3 +21,4 @@ pub use mem_sink::MemSink;
 pub use numbers::{bytes_at, part_at, sum8, u16_at, u32_at, u64_at};
 pub use out_sink::OutSink;
 pub use outside::{Failed, NoMemory, Shelf, Sink};
+pub use writing::{append, checksum8, put_bytes, put_u16, put_u32, put_u64, seal8};

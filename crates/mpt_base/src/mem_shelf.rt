@@ -136,7 +136,9 @@ impl Shelf for MemShelf {
         ensures misses_never_fall { self.old.misses ≤ self.new.misses }
         ensures asks_nothing { self.new.asked ≡ self.old.asked }
         ensures failed { OnErr result (Rose self.old.faults self.new.faults) }
+        ensures unfailed { OnOk result (self.new.faults ≡ self.old.faults) }
         ensures missing { IfOk result (λ size. IfNone size (Rose self.old.misses self.new.misses)) }
+        ensures found { IfOk result (λ size. IfSome size (λ _. self.new.misses ≡ self.old.misses)) }
         ensures told { IfOk result (λ size. IsSizeTold (Some (file_of self.old)) name.now size) }
 
         // A call fails exactly where it was told to.
@@ -163,6 +165,8 @@ impl Shelf for MemShelf {
         ensures asked_never_falls { self.old.asked ≤ self.new.asked }
         ensures asks_the_buffer { self.new.asked ≤ self.old.asked + length buf.old }
         ensures failed { OnErr result (Rose self.old.faults self.new.faults) }
+        ensures unfailed { OnOk result (self.new.faults ≡ self.old.faults) }
+        ensures found { OnOk result (self.new.misses ≡ self.old.misses) }
         ensures told { OnOk result (FillsFromTold (Some (file_of self.old)) name.now at buf.new) }
 
         // A call fails exactly where it was told to; what it asked for is counted all the same.

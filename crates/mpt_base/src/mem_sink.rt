@@ -78,6 +78,7 @@ impl Sink for MemSink {
     fn put(&mut self, piece: &[u8]) -> Result<(), Failed>
         ensures faults_never_fall { self.old.faults ≤ self.new.faults }
         ensures failed { OnErr result (Rose self.old.faults self.new.faults) }
+        ensures unfailed { OnOk result (self.new.faults ≡ self.old.faults) }
         ensures ok { OnOk result (Appends (Some self.old.written) (Some self.new.written) piece.now) }
         ensures err { OnErr result (AppendsPrefix (Some self.old.written) (Some self.new.written) piece.now) }
 

@@ -1,16 +1,21 @@
 //! A sink over the standard output. What leaves the process is outside what is proved.
 
-ghost use Rattle.std.specs.Prelude.{◌≡◌, ◌≤◌, OnOk, OnErr};
+ghost use Rattle.std.specs.Prelude.{◌≡◌, ◌≤◌, ◌<◌, length, IfOk, OnOk, OnErr};
 ghost use Rattle.mpt_base.specs.Outside.{Rose, Appends, AppendsPrefix};
 ghost use Rattle.mpt_base.specs.OutSink.{untold_bytes, no_sink_counts, counting_refusal};
 
 use crate::outside::{Failed, Sink};
 use std::alloc::Global;
+use std::io::ErrorKind;
 use std::marker::Model;
+
+/// How many times in all a write is tried that signals interrupt.
+const TRIES: u32 = 64;
 
 /// A sink over the standard output.
 ///
-/// A write that fails, or that takes nothing of what is left of a piece, is a failed call.
+/// A write that fails, or that takes nothing of what is left of a piece, is a failed call. One that a
+/// signal interrupts before it took anything is tried again, 64 times in all.
 #[derive(Drop)]
 pub struct OutSink<'a, R: Print> {
     rt: &'a R,
@@ -47,6 +52,7 @@ impl<'a, R: Print> Sink for OutSink<'a, R> {
     fn put(&mut self, piece: &[u8]) -> Result<(), Failed>
         ensures faults_never_fall { self.old.faults ≤ self.new.faults }
         ensures failed { OnErr result (Rose self.old.faults self.new.faults) }
+        ensures unfailed { OnOk result (self.new.faults ≡ self.old.faults) }
         ensures ok { OnOk result (Appends untold_bytes untold_bytes piece.now) }
         ensures err { OnErr result (AppendsPrefix untold_bytes untold_bytes piece.now) }
 
@@ -66,10 +72,24 @@ impl<'a, R: Print> Sink for OutSink<'a, R> {
 fn write_whole<R: Print>(rt: &R, piece: &[u8]) -> Result<(), Failed> {
     let mut rest = piece;
     while !rest.is_empty() {
-        match rt.write_some(rest) {
-            Ok(0) | Err(_) => return Err(Failed),
-            Ok(taken) => rest = &rest[taken..],
-        }
+        let taken = write_first(rt, rest)?;
+        rest = &rest[taken..];
     }
     Ok(())
+}
+
+// Writes some first bytes, at least one. A write that a signal interrupted before it took anything is
+// tried again, `TRIES` times in all.
+fn write_first<R: Print>(rt: &R, bytes: &[u8]) -> Result<usize, Failed>
+    ensures takes { IfOk result (λ taken. (0 < taken) × (taken ≤ length bytes.now)) }
+{
+    for _ in 0..TRIES {
+        match rt.write_some(bytes) {
+            Ok(0) => return Err(Failed),
+            Ok(taken) => return Ok(taken),
+            Err(error) if error.kind() == ErrorKind::Interrupted => {}
+            Err(_) => return Err(Failed),
+        }
+    }
+    Err(Failed)
 }

@@ -3,10 +3,11 @@
 //! Each has a meaning that only contracts see. What the files hold and what was written is told by
 //! some implementations (those in memory) and not by others (those over the operating system).
 //! Failures are counted: a call may fail only where the count of faults rose, so that code which is
-//! generic over a shelf or a sink can't give up by itself. A count stands still at the last value of
-//! a `u64`.
+//! generic over a shelf or a sink can't give up by itself, and a call that succeeds leaves the count
+//! as it was, so that such code can't hide a failure behind a later call. A count stands still at the
+//! last value of a `u64`.
 
-ghost use Rattle.std.specs.Prelude.{◌≡◌, ◌+◌, ◌≤◌, ℕ, List, Option, length, OnOk, OnErr, IfOk, IfNone};
+ghost use Rattle.std.specs.Prelude.{◌≡◌, ◌+◌, ◌≤◌, ℕ, List, Option, length, OnOk, OnErr, IfOk, IfNone, IfSome};
 ghost use Rattle.mpt_base.specs.Outside.{Rose, IsSizeTold, IsInsideTold, FillsFromTold, Appends, AppendsPrefix};
 
 /// A call on the outside world failed. Nothing more is known of it.
@@ -38,7 +39,9 @@ pub trait Shelf {
         ensures misses_never_fall { misses self.old ≤ misses self.new }
         ensures asks_nothing { asked self.new ≡ asked self.old }
         ensures failed { OnErr result (Rose (faults self.old) (faults self.new)) }
+        ensures unfailed { OnOk result (faults self.new ≡ faults self.old) }
         ensures missing { IfOk result (λ size. IfNone size (Rose (misses self.old) (misses self.new))) }
+        ensures found { IfOk result (λ size. IfSome size (λ _. misses self.new ≡ misses self.old)) }
         ensures told { IfOk result (λ size. IsSizeTold (files self.old) name.now size) };
 
     /// Fills the buffer with the bytes of a file from `at` on.
@@ -50,6 +53,8 @@ pub trait Shelf {
         ensures asked_never_falls { asked self.old ≤ asked self.new }
         ensures asks_the_buffer { asked self.new ≤ asked self.old + length buf.old }
         ensures failed { OnErr result (Rose (faults self.old) (faults self.new)) }
+        ensures unfailed { OnOk result (faults self.new ≡ faults self.old) }
+        ensures found { OnOk result (misses self.new ≡ misses self.old) }
         ensures told { OnOk result (FillsFromTold (files self.old) name.now at buf.new) };
 }
 
@@ -65,6 +70,7 @@ pub trait Sink {
     fn put(&mut self, piece: &[u8]) -> Result<(), Failed>
         ensures faults_never_fall { faults self.old ≤ faults self.new }
         ensures failed { OnErr result (Rose (faults self.old) (faults self.new)) }
+        ensures unfailed { OnOk result (faults self.new ≡ faults self.old) }
         ensures ok { OnOk result (Appends (written self.old) (written self.new) piece.now) }
         ensures err { OnErr result (AppendsPrefix (written self.old) (written self.new) piece.now) };
 }

@@ -1,7 +1,7 @@
 //! The search for the floating pointer (MultiProcessor Specification 1.4, section 4.1). The rule of
 //! the first area is this project's own (docs/PROFILE.md).
 
-ghost use Rattle.std.specs.Prelude.{◌≡◌, Some, ℕ, IfSome, IfNone, ◌+◌, ◌<◌, ◌≤◌, ◌^◌, ◌↔◌, IsTrue, length, min};
+ghost use Rattle.std.specs.Prelude.{◌≡◌, Some, ℕ, IfSome, IfNone, ◌+◌, ◌<◌, ◌≤◌, ◌^◌, ◌↔◌, IsTrue, length, min, ◌%◌};
 ghost use Rattle.std.specs.List.{flat_map};
 ghost use Rattle.mpt_spec.specs.Search.{areas_of, word_at as search_word, places_in, search_places, IsFirst, HoldsAtNone, HasPointerAt, IsFirstPointerAt, HasNoPointer};
 
@@ -78,10 +78,13 @@ fn has_pointer_at(image: &[u8], at: u64) -> bool
     pointer_at(image, at as usize).is_some()
 }
 
-// the first place of an area at which one stands
-fn find_in(image: &[u8], area: Area) -> Option<u64>
+/// The first place of an area at which a floating pointer stands, and `None` exactly where there is
+/// none. Places that lie behind the image have none.
+pub fn find_in(image: &[u8], area: Area) -> Option<u64>
     ensures some { IfSome result (IsFirst (HasPointerAt image.now) (places_in area)) }
     ensures none { IfNone result (HoldsAtNone (HasPointerAt image.now) (places_in area)) }
+    ensures paragraph { IfSome result (λ at. at % 16 ≡ 0) }
+    ensures inside { IfSome result (λ at. at + 16 ≤ area.to) }
 {
     for paragraph in area.from.div_ceil(16)..area.to / 16 {
         if has_pointer_at(image, 16 * paragraph) {

@@ -119,7 +119,7 @@ Describes-no_first_fault image t k w d f =
     Describes-no_fault image t k w d (subst (λ x. HasFaultAt image x k w) places f.stands)
 
 -- a fault of the table lies in the image, where the header does
-table_fault_inside : (image : List ℕ) (at k : ℕ) (w : Reason) → at + 44 ≤ length image → HasTableFaultAt image at k w → k < length image
+pub table_fault_inside : (image : List ℕ) (at k : ℕ) (w : Reason) → at + 44 ≤ length image → HasTableFaultAt image at k w → k < length image
 table_fault_inside image at k why.BadSignature i h = omega (arith, h.0)
 table_fault_inside image at k why.ShortLength i h = omega (arith, h.0)
 table_fault_inside image at k why.LengthOutside i h = omega (arith, h.0)

@@ -4,3 +4,13 @@ pub mod CallerLemmas
 pub mod TableLemmas
 pub mod FaultLemmas
 pub mod FirstFaultLemmas
+pub mod WindowLemmas
+pub mod TableWindowLemmas
+pub mod ByteLemmas
+pub mod WrittenLemmas
+pub mod WrittenTableLemmas
+pub mod WrittenImageLemmas
+pub mod SpellingLemmas
+pub mod ValueLemmas
+pub mod WellFormedLemmas
+pub mod CanonicalLemmas

@@ -1,6 +1,8 @@
 -- What the reader has found right so far. Only private functions of the crate cite it.
-use Rattle.std.specs.Prelude.{◌≡◌, ◌≢◌, ℕ, ◌+◌, ◌≤◌, List, length, slice_index, codes}
+use Rattle.std.specs.Prelude.{◌≡◌, ◌≢◌, ℕ, ◌+◌, ◌≤◌, ◌<◌, List, length, slice_index, codes}
 use Rattle.mpt_base.specs.Bytes.{part}
+use Rattle.mpt_base.specs.declared.fault.Reason.{Reason}
+use Rattle.mpt_base.specs.declared.fault.Reason.TheVariants as why
 use Rattle.mpt_spec.specs.declared.pointer.Pointer.{Pointer}
 use Rattle.mpt_spec.specs.declared.entry.Base.{Base}
 use Rattle.mpt_spec.specs.Entries.{AreBaseEntries}
@@ -12,6 +14,14 @@ pub record HasRightPointer (p : Pointer) (size : ℕ) : Type 0 where
   pub inside : default_number p ≡ 0 → p.address + 44 ≤ size
   pub revision : p.revision ≡ 4
   pub low : default_number p ≤ 7
+
+-- a fault of the floating pointer that stands at a place of an image of this size: it rests on nothing else
+abbrev pub IsPointerFault : Pointer → ℕ → ℕ → ℕ → Reason → Type 0
+IsPointerFault p size at k why.NoTable = (k ≡ at + 4) × (default_number p ≡ 0) × (p.address ≡ 0)
+IsPointerFault p size at k why.TableOutside = (k ≡ at + 4) × (default_number p ≡ 0) × (p.address ≢ 0) × (size < p.address + 44)
+IsPointerFault p size at k why.BadRevision = (k ≡ at + 9) × (p.revision ≢ 4)
+IsPointerFault p size at k why.BadDefault = (k ≡ at + 11) × (7 < default_number p)
+IsPointerFault p size at k _ = ⊥
 
 -- the header is right up to the checksum: signature, base length, revision and the sum of the base table
 pub record HasRightHeader (image : List ℕ) (at : ℕ) : Type 0 where

@@ -6,9 +6,14 @@ mod header;
 mod pointer_fault;
 mod reading;
 mod refusal;
+mod search_from;
+mod table_from;
+mod reading_from;
+mod window;
 #[cfg(test)]
 mod tests;
 
 pub use mpt_spec::{Body, Pointer, Table, Tables};
 pub use reading::read;
-pub use refusal::Refusal;
+pub use reading_from::read_from;
+pub use refusal::{FileRefusal, Refusal};

@@ -1,12 +1,9 @@
 //! The faults of the floating pointer, from left to right (MultiProcessor Specification 1.4, section
 //! 4.1, figure 4-2).
 
-ghost use Rattle.std.specs.Prelude.{◌≡◌, ◌≢◌, ◌+◌, ◌≤◌, ◌<◌, length, IfSome, IfNone, MatchBool};
-ghost use Rattle.mpt_base.specs.Bytes.{part};
-ghost use Rattle.mpt_spec.specs.Pointer.{IsFloatingPointer};
+ghost use Rattle.std.specs.Prelude.{◌≡◌, ◌≢◌, ◌+◌, ◌≤◌, ◌<◌, IfSome, IfNone, MatchBool};
 ghost use Rattle.mpt_spec.specs.Table.{default_number};
-ghost use Rattle.mpt_spec.specs.Faults.{HasPointerFaultAt};
-ghost use Rattle.mpt_table.specs.Header.{HasRightPointer};
+ghost use Rattle.mpt_table.specs.Header.{HasRightPointer, IsPointerFault};
 ghost use Rattle.mpt_table.specs.Least.{IsLeast};
 
 use crate::header::{HEADER_LENGTH, REVISION, fault_at};
@@ -25,24 +22,23 @@ fn has_body(pointer: &Pointer) -> bool
 }
 
 // whether the header of the table lies in an image of this size, where there is a table
-fn has_header_inside(size: usize, pointer: &Pointer) -> bool
+fn has_header_inside(size: u64, pointer: &Pointer) -> bool
     ensures { MatchBool result (default_number pointer.now ≡ 0 → pointer.now.address + 44 ≤ size)
         ((default_number pointer.now ≡ 0) × (size < pointer.now.address + 44)) }
 {
-    pointer.features[0] != 0 || pointer.address as usize + HEADER_LENGTH <= size
+    pointer.features[0] != 0 || u64::from(pointer.address) + HEADER_LENGTH as u64 <= size
 }
 
 /// The first fault of the floating pointer that stands at `at`.
-pub(crate) fn pointer_fault(image: &[u8], at: usize, pointer: &Pointer) -> Option<Fault>
-    requires inside { at + 16 ≤ length image.now }
-    requires there { IsFloatingPointer pointer.now (part image.now at 16) }
-    ensures some { IfSome result (λ f. IsLeast (HasPointerFaultAt image.now at) f.at f.why) }
-    ensures none { IfNone result (HasRightPointer pointer.now (length image.now)) }
+pub(crate) fn pointer_fault(size: u64, at: usize, pointer: &Pointer) -> Option<Fault>
+    requires inside { at + 16 ≤ size }
+    ensures some { IfSome result (λ f. IsLeast (IsPointerFault pointer.now size at) f.at f.why) }
+    ensures none { IfNone result (HasRightPointer pointer.now size) }
 {
     if !has_body(pointer) {
         return Some(fault_at(at + 4, Reason::NoTable));
     }
-    if !has_header_inside(image.len(), pointer) {
+    if !has_header_inside(size, pointer) {
         return Some(fault_at(at + 4, Reason::TableOutside));
     }
     if pointer.revision != REVISION {

@@ -70,8 +70,8 @@ fn with_ext(alloc: Global, image: &[u8], at: usize, base: Vec<Base>) -> Result<T
     }
 }
 
-// the table at a place, or its first fault
-fn read_table(alloc: Global, image: &[u8], at: usize) -> Result<Table, Stop>
+/// The table at a place, or its first fault.
+pub(crate) fn read_table(alloc: Global, image: &[u8], at: usize) -> Result<Table, Stop>
     requires { at + 44 ≤ length image.now }
     ensures table { IfOk result (λ t. IsConfigurationTable t image.now at) }
     ensures fault { IfFault result (λ f. IsLeast (HasTableFaultAt image.now at) f.at f.why) }
@@ -114,7 +114,7 @@ fn tables_at(alloc: Global, image: &[u8], at: u64) -> Result<Tables, Refusal>
     let Some(pointer) = pointer_at(image, at as usize) else {
         unreachable!()
     };
-    if let Some(fault) = pointer_fault(image, at as usize, &pointer) {
+    if let Some(fault) = pointer_fault(image.len() as u64, at as usize, &pointer) {
         return Err(Refusal::Fault(fault));
     }
     match body_of(alloc, image, &pointer) {

@@ -1,38 +1,24 @@
--- What a status says of words and files.
---     NamesFile words told P    the words name a file, and where the files are told, P holds of what it is
-use Rattle.std.specs.Prelude.{◌≡◌, ◌≤◌, ◌<◌, ℕ, List, length, Option, None, IfSome, IsSomeAnd}
-use Rattle.mpt_base.specs.Outside.{Files}
-use Rattle.mpt_base.specs.declared.fault.Reason.{Reason}
-use Rattle.mpt_spec.specs.declared.tables.Tables.{Tables}
-use Rattle.mpt_spec.specs.Search.{HasNoPointer}
-use Rattle.mpt_spec.specs.Table.{Describes}
-use Rattle.mpt_spec.specs.Faults.{IsFirstFault}
-use Rattle.mptab_calls.specs.Answer.{image_limit, IsShow}
+-- The causes. Statuses 2, 3, 4, 5, 9 and 10 are the walk's own; those of refusals and texts stand beside their causes in `IsRefused` and `IsText`.
+--     ComesTo listed told words P    the walk of a listed form comes to a file of which P holds
+--     Cause .. result                what the status says of words, files and outside; no status without one is answered
+use Rattle.std.specs.Prelude.{◌≡◌, ℕ, List, Option, ⊤}
+use Rattle.std.specs.List.{AllByRecursion}
+use Rattle.mpt_base.specs.Outside.{Files, Rose}
+use Rattle.mptab_calls.specs.Forms.{Form, Named, files_of}
+use Rattle.mptab_calls.specs.Commands.{IsUnderstood, IsRefused, IsText}
+use Rattle.mptab_calls.specs.Walk.{Outside, IsListed, IsNoForm, IsAbsent, IsTooLarge, Reaches, IsFirstRead}
 
--- the words name a file, and where the files are told, P holds of what the file of that name is
-abbrev pub NamesFile : List (List ℕ) → Option Files → (Option (List ℕ) → Type 0) → Type 0
-NamesFile words told P = (name : List ℕ) × IsShow words name × IfSome told (λ files. P (files name))
+-- the words are a listed form whose walk comes to a file of which P holds
+abbrev pub ComesTo : (Form → Type 0) → Option Files → List (List ℕ) → (Named → Type 0) → Type 0
+ComesTo listed told words P = IsListed listed words (λ form. (file : Named) × Reaches told (files_of form) file × P file)
 
--- the file isn't there
-abbrev pub IsAbsent : Option (List ℕ) → Type 0
-IsAbsent held = held ≡ None
-
--- the file passes its limit
-abbrev pub IsTooLarge : Option (List ℕ) → Type 0
-IsTooLarge held = IsSomeAnd held (λ image. image_limit < length image)
-
--- the file is there and within its limit
-abbrev pub IsWithinLimit : Option (List ℕ) → Type 0
-IsWithinLimit held = IsSomeAnd held (λ image. length image ≤ image_limit)
-
--- the file is an image that describes tables
-abbrev pub IsDescribed : Option (List ℕ) → Type 0
-IsDescribed held = IsSomeAnd held (λ image. (tables : Tables) × Describes image tables)
-
--- the file is an image without a floating pointer
-abbrev pub IsWithoutPointer : Option (List ℕ) → Type 0
-IsWithoutPointer held = IsSomeAnd held HasNoPointer
-
--- the file is an image whose tables are refused for a first fault
-abbrev pub IsFaulty : Option (List ℕ) → Type 0
-IsFaulty held = IsSomeAnd held (λ image. (at : ℕ) × (why : Reason) × IsFirstFault image at why)
+-- the causes: no status without one is answered
+pub data Cause (listed : Form → Type 0) (told : Option Files) (before after : Outside) (words : List (List ℕ)) (result : ℕ) : Type 0 where
+  Done : IsListed listed words (λ form. AllByRecursion (IsUnderstood told) (files_of form) × (text : List ℕ) × IsText told form result text) → Cause listed told before after words result
+  Refused : ComesTo listed told words (λ file. (text : List ℕ) × IsRefused told file result text) → Cause listed told before after words result
+  Usage : result ≡ 2 → IsNoForm listed words → Cause listed told before after words result
+  NoFile : result ≡ 3 → Rose before.misses after.misses → ComesTo listed told words (IsAbsent told) → Cause listed told before after words result
+  CannotRead : result ≡ 4 → Rose before.faults after.faults → ComesTo listed told words (λ file. ⊤) → Cause listed told before after words result
+  CannotWrite : result ≡ 5 → Rose before.sink_faults after.sink_faults → Cause listed told before after words result
+  NoMemory : result ≡ 9 → IsListed listed words (λ form. IsFirstRead told (files_of form)) → Cause listed told before after words result
+  TooLarge : result ≡ 10 → ComesTo listed told words (λ file. (size : ℕ) × IsTooLarge told file size) → Cause listed told before after words result

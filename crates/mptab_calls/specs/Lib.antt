@@ -1,4 +1,8 @@
 pub mod Texts
-pub mod Answer
+pub mod Forms
+pub mod Commands
+pub mod Walk
 pub mod Causes
+pub mod Ending
+pub mod Command
 pub mod File

@@ -4,6 +4,8 @@ use Rattle.mpt_base.specs.declared.fault.Reason.{Reason}
 use Rattle.mpt_base.specs.declared.fault.Reason.TheVariants as why
 use Rattle.mpt_base.specs.Reason.{reason_number}
 use Rattle.mpt_listing.specs.Listing.{line, hex}
+use Rattle.mpt_parse.specs.declared.fault.LineWhy.{LineWhy}
+use Rattle.mpt_parse.specs.declared.fault.LineWhy.TheVariants as line_why
 
 -- the words are no listed form (status 2)
 abbrev pub usage_line : List ℕ
@@ -51,3 +53,17 @@ reason_name why.CutExtEntry = codes "CutExtEntry"
 -- the tables are refused (status 7): number and name of the first fault's reason, and its offset in the image
 abbrev pub fault_line : ℕ → Reason → List ℕ
 fault_line at reason = line (codes "mptab: fault " ∷ decimal (reason_number reason) ∷ codes " " ∷ reason_name reason ∷ codes " at " ∷ hex 8 at ∷ [])
+
+-- why a line of a listing is refused
+abbrev pub line_why_name : LineWhy → List ℕ
+line_why_name line_why.Form = codes "Form"
+line_why_name line_why.Early = codes "Early"
+line_why_name line_why.Late = codes "Late"
+
+-- a listing is refused (status 8): its first bad line, counted from 1
+abbrev pub bad_line_line : ℕ → LineWhy → List ℕ
+bad_line_line n why = line (codes "mptab: listing line " ∷ decimal n ∷ codes " " ∷ line_why_name why ∷ [])
+
+-- the tables have no place in an image of 1 MiB (status 8): the bytes of their block
+abbrev pub unfit_line : ℕ → List ℕ
+unfit_line size = line (codes "mptab: does not fit " ∷ decimal size ∷ [])

@@ -1,9 +1,9 @@
 //! The delivery of a text to a sink, in pieces none of which is empty.
 
-ghost use Rattle.std.specs.Prelude.{◌≡◌, ◌≢◌, ◌≤◌, map, OnOk, OnErr};
+ghost use Rattle.std.specs.Prelude.{◌≡◌, map, OnOk, OnErr};
 ghost use Rattle.mpt_base.specs.Outside.{Rose, Appends, AppendsPrefix};
 ghost use Rattle.mpt_listing.specs.Listing.{line};
-ghost use Rattle.mptab_calls.specs.Answer.{IsDelivered};
+ghost use Rattle.mptab_calls.specs.Walk.{IsDelivered, outside};
 
 use crate::status::CANNOT_WRITE;
 use mpt_base::{Failed, Sink};
@@ -16,7 +16,7 @@ pub(crate) fn put_text<O: Sink>(out: &mut O, text: &[u8]) -> Result<(), Failed>
     ensures ok { OnOk result (Appends (O.written out.old) (O.written out.new) text.now) }
     ensures err { OnErr result (AppendsPrefix (O.written out.old) (O.written out.new) text.now) }
     ensures failed { OnErr result (Rose (O.faults out.old) (O.faults out.new)) }
-    ensures faults_never_fall { O.faults out.old ≤ O.faults out.new }
+    ensures unfailed { OnOk result (O.faults out.new ≡ O.faults out.old) }
 {
     let mut rest = text;
     while !rest.is_empty() {
@@ -36,7 +36,7 @@ pub(crate) fn put_line<O: Sink>(out: &mut O, parts: &[&[u8]]) -> Result<(), Fail
     ensures err { OnErr result (AppendsPrefix (O.written out.old) (O.written out.new)
         (line (map (λ part. part.now) parts.now))) }
     ensures failed { OnErr result (Rose (O.faults out.old) (O.faults out.new)) }
-    ensures faults_never_fall { O.faults out.old ≤ O.faults out.new }
+    ensures unfailed { OnOk result (O.faults out.new ≡ O.faults out.old) }
 {
     for part in parts {
         if let Err(failed) = put_text(out, part) {
@@ -48,8 +48,8 @@ pub(crate) fn put_line<O: Sink>(out: &mut O, parts: &[&[u8]]) -> Result<(), Fail
 
 /// Delivers a text. The status is the answer's, or that of a sink that failed.
 pub(crate) fn deliver_text<O: Sink>(out: &mut O, status: u8, text: &[u8]) -> u8
-    ensures delivered { IsDelivered result status text.now (O.written out.old) (O.written out.new) }
-    ensures unwritten { status ≢ 5 → result ≡ 5 → Rose (O.faults out.old) (O.faults out.new) }
+    ensures { IsDelivered (outside 0 0 0 (O.faults out.old) (O.written out.old))
+        (outside 0 0 0 (O.faults out.new) (O.written out.new)) result status text.now }
 {
     match put_text(out, text) {
         Ok(()) => status,
@@ -59,9 +59,9 @@ pub(crate) fn deliver_text<O: Sink>(out: &mut O, status: u8, text: &[u8]) -> u8
 
 /// Delivers a line of these parts, without taking memory.
 pub(crate) fn deliver_line<O: Sink>(out: &mut O, status: u8, parts: &[&[u8]]) -> u8
-    ensures delivered { IsDelivered result status (line (map (λ part. part.now) parts.now))
-        (O.written out.old) (O.written out.new) }
-    ensures unwritten { status ≢ 5 → result ≡ 5 → Rose (O.faults out.old) (O.faults out.new) }
+    ensures { IsDelivered (outside 0 0 0 (O.faults out.old) (O.written out.old))
+        (outside 0 0 0 (O.faults out.new) (O.written out.new))
+        result status (line (map (λ part. part.now) parts.now)) }
 {
     match put_line(out, parts) {
         Ok(()) => status,

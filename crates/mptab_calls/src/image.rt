@@ -1,103 +1,69 @@
-//! The answer of `show` to an image, as a status and a text.
+//! The step of the walk that takes an image: its size, its limit, its tables by windows.
 
-ghost use Rattle.std.specs.Prelude.{◌≡◌, map, IfOk};
-ghost use Rattle.mpt_base.specs.Reason.{reason_number};
-ghost use Rattle.mpt_listing.specs.Listing.{line};
-ghost use Rattle.mpt_listing.specs.Part.{part_text};
-ghost use Rattle.mptab_calls.specs.Texts.{reason_name, fault_line};
-ghost use Rattle.mptab_calls.specs.Answer.{IsImageAnswer};
+ghost use Rattle.std.specs.Prelude.{◌≡◌, ◌≤◌, ◌<◌, ◌+◌, ◌^◌, Some, IfOk, IfErr};
+ghost use Rattle.mpt_base.specs.Outside.{IsSizeTold};
+ghost use Rattle.mpt_spec.specs.Canonical.{IsWellFormed};
+ghost use Rattle.mptab_calls.specs.Forms.{Image, limit_of, most_asked};
+ghost use Rattle.mptab_calls.specs.Commands.{GivesTables};
+ghost use Rattle.mptab_calls.specs.Walk.{most_of};
+ghost use Rattle.mptab_calls.specs.Ending.{IsEnding, shelves};
 
-use crate::status::{DONE, NO_POINTER, REFUSED};
-use mpt_base::{Fault, NoMemory, Reason};
-use mpt_listing::{Part, print, push_line};
-use mpt_table::{Refusal, read};
+use crate::ending::Ending;
+use mpt_base::{Failed, Shelf};
+use mpt_table::{FileRefusal, Tables, read_from};
 use std::alloc::Global;
 
-/// A status and the text that goes with it.
-#[derive(Drop)]
-pub(crate) struct ImageAnswer {
-    pub(crate) status: u8,
-    pub(crate) text: Vec<u8>,
-}
+/// The most bytes of an image: 16 MiB.
+const IMAGE_LIMIT: u64 = 16_777_216;
 
-/// The answer of `show` to an image.
-pub(crate) fn image_answer(alloc: Global, image: &[u8]) -> Result<ImageAnswer, NoMemory>
-    ensures { IfOk result (λ answer. IsImageAnswer image.now answer.status answer.text.items) }
+/// The tables of the image of this name, or why the walk ends there.
+pub(crate) fn take_image<S: Shelf>(
+    alloc: Global,
+    name: &str,
+    shelf: &mut S,
+) -> Result<Tables, Ending>
+    ensures files_stay { S.files shelf.new ≡ S.files shelf.old }
+    ensures unfailed { IfOk result (λ t. S.faults shelf.new ≡ S.faults shelf.old) }
+    ensures tables { IfOk result (λ t. GivesTables (S.files shelf.old) (Image name.now) t) }
+    ensures well_formed { IfOk result IsWellFormed }
+    ensures low { IfOk result (λ t. t.at < 2 ^ 32) }
+    ensures ends { IfErr result (IsEnding (S.files shelf.old)
+        (shelves (S.misses shelf.old) (S.misses shelf.new) (S.faults shelf.old) (S.faults shelf.new))
+        (Image name.now)) }
+    ensures asks { S.asked shelf.new ≤ S.asked shelf.old + most_of (S.files shelf.old) (Image name.now) }
 {
-    match read(alloc, image) {
-        Ok(tables) => {
-            let text = print(alloc, &tables)?;
-            Ok(ImageAnswer { status: DONE, text })
-        }
-        Err(Refusal::NoPointer) => {
-            let text = text_of(alloc, &[Part::Text(b"mptab: no floating pointer")])?;
-            Ok(ImageAnswer {
-                status: NO_POINTER,
-                text,
-            })
-        }
-        Err(Refusal::Fault(fault)) => {
-            let text = fault_text(alloc, fault)?;
-            Ok(ImageAnswer {
-                status: REFUSED,
-                text,
-            })
-        }
-        Err(Refusal::NoMemory) => Err(NoMemory),
+    match shelf.size(name) {
+        Ok(None) => Err(Ending::Absent),
+        Ok(Some(size)) if size > IMAGE_LIMIT => Err(Ending::TooLarge(size)),
+        Ok(Some(size)) => image_of_size(alloc, name, size, shelf),
+        Err(Failed) => Err(Ending::Unread),
     }
 }
 
-fn text_of(alloc: Global, parts: &[Part]) -> Result<Vec<u8>, NoMemory>
-    ensures { IfOk result (λ text. text.items ≡ line (map part_text parts.now)) }
+// the same for an image of this size
+fn image_of_size<S: Shelf>(
+    alloc: Global,
+    name: &str,
+    size: u64,
+    shelf: &mut S,
+) -> Result<Tables, Ending>
+    requires told { IsSizeTold (S.files shelf.old) name.now (Some size) }
+    requires within { size ≤ limit_of (Image name.now) }
+    ensures files_stay { S.files shelf.new ≡ S.files shelf.old }
+    ensures unfailed { IfOk result (λ t. S.faults shelf.new ≡ S.faults shelf.old) }
+    ensures tables { IfOk result (λ t. GivesTables (S.files shelf.old) (Image name.now) t) }
+    ensures well_formed { IfOk result IsWellFormed }
+    ensures low { IfOk result (λ t. t.at < 2 ^ 32) }
+    ensures ends { IfErr result (IsEnding (S.files shelf.old)
+        (shelves (S.misses shelf.old) (S.misses shelf.new) (S.faults shelf.old) (S.faults shelf.new))
+        (Image name.now)) }
+    ensures asks { S.asked shelf.new ≤ S.asked shelf.old + most_asked (Image name.now) size }
 {
-    let mut text = Vec::new(alloc);
-    match push_line(&mut text, parts) {
-        Ok(()) => Ok(text),
-        Err(_) => Err(NoMemory),
-    }
-}
-
-fn fault_text(alloc: Global, fault: Fault) -> Result<Vec<u8>, NoMemory>
-    ensures { IfOk result (λ text. text.items ≡ fault_line fault.at fault.why) }
-{
-    text_of(
-        alloc,
-        &[
-            Part::Text(b"mptab: fault "),
-            Part::Decimal(u64::from(number_of(fault.why))),
-            Part::Text(b" "),
-            Part::Text(name_of(fault.why)),
-            Part::Text(b" at "),
-            Part::Hex(8, fault.at),
-        ],
-    )
-}
-
-fn number_of(why: Reason) -> u8
-    ensures { result ≡ reason_number why }
-{
-    why as u8
-}
-
-fn name_of(why: Reason) -> &'static [u8]
-    ensures { result.now ≡ reason_name why }
-{
-    match why {
-        Reason::BadRevision => b"BadRevision",
-        Reason::BadDefault => b"BadDefault",
-        Reason::NoTable => b"NoTable",
-        Reason::TableOutside => b"TableOutside",
-        Reason::BadSignature => b"BadSignature",
-        Reason::ShortLength => b"ShortLength",
-        Reason::LengthOutside => b"LengthOutside",
-        Reason::BadSum => b"BadSum",
-        Reason::BadCount => b"BadCount",
-        Reason::UnknownEntry => b"UnknownEntry",
-        Reason::CutEntry => b"CutEntry",
-        Reason::ExtOutside => b"ExtOutside",
-        Reason::BadExtSum => b"BadExtSum",
-        Reason::BadExtType => b"BadExtType",
-        Reason::BadExtLength => b"BadExtLength",
-        Reason::CutExtEntry => b"CutExtEntry",
+    match read_from(alloc, shelf, name, size) {
+        Ok(tables) => Ok(tables),
+        Err(FileRefusal::NoPointer) => Err(Ending::NoPointer),
+        Err(FileRefusal::Fault(fault)) => Err(Ending::Fault(fault)),
+        Err(FileRefusal::Read) => Err(Ending::Unread),
+        Err(FileRefusal::NoMemory) => Err(Ending::NoMemory),
     }
 }

@@ -2,11 +2,16 @@
 //! delivery of the answer.
 #![tactic(auto)]
 
+mod answer;
 mod calls;
 mod delivery;
+mod ending;
 mod file;
+mod giving;
 mod image;
-mod show;
+mod listing;
+mod source;
 mod status;
+mod words;
 
 pub use calls::{run, run_still};

@@ -1,11 +1,17 @@
 use Rattle.std.proofs.Common.{sym, ◌∙◌}
 use Rattle.mpt_spec.proofs.CallerLemmas.{IsFloatingPointer-fields}
-use Rattle.mpt_spec.proofs.FirstFaultLemmas.{IsFirstFault-of_table}
-use Rattle.mpt_table.proofs.PointerFaults.{HasRightPointer-no_fault}
+use Rattle.mpt_spec.proofs.FirstFaultLemmas.{IsFirstFault-of_table, IsFirstFault-of_pointer}
+use Rattle.mpt_table.proofs.PointerFaults.{HasRightPointer-no_fault, IsPointerFault-first}
 use Rattle.mpt_table.proofs.reading.tables_at.Goals as goal
 
 pub unreachable-requires : goal.unreachable-requires
 unreachable-requires c = c.in_default.ensures.none c.requires.first.holds.0 c.requires.first.holds.1
+
+pub returns-in-Some-pointer_fault-clause-refused : goal.returns-in-Some-pointer_fault-clause-refused
+returns-in-Some-pointer_fault-clause-refused c =
+    let f = c.in-Some-pointer_fault.fault in
+    let least = IsPointerFault-first c.in-Some.pointer c.args.image.now c.args.at f.at f.why c.in-Some.ensures.some c.in-Some-pointer_fault.ensures.some in
+    IsFirstFault-of_pointer c.args.image.now c.args.at f.at f.why c.requires.first least.stands least.least
 
 pub returns-in-Err-Fault-clause-refused : goal.returns-in-Err-Fault-clause-refused
 returns-in-Err-Fault-clause-refused c =

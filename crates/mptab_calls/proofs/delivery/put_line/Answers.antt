@@ -1,4 +1,4 @@
-use Rattle.std.proofs.Common.{List, ℕ, [], get_or, arith}
+use Rattle.std.proofs.Common.{List, ℕ, [], get_or, ◌∙◌}
 use Rattle.std.specs.Borrow.{Bor}
 use Rattle.mptab_calls.proofs.DeliveryLemmas.{WritesFront-piece, WritesFront-fails, line-drop, line-end, WritesFront-last_fails}
 use Rattle.mptab_calls.proofs.delivery.put_line.Goals as goal
@@ -8,7 +8,7 @@ loop-part-preserved g c =
     let none : Bor (List ℕ) = record { ref_ptr = (0, 0); now = [] } in (
       WritesFront-piece (g.O.Sink.written c.args.out.now) (g.O.Sink.written c.loop-part.out) (g.O.Sink.written c.put_text.new.out) _ (get_or c.args.parts.now c.loop-part.part-index none).now _ _
           (line-drop (λ (part : Bor (List ℕ)). part.now) c.args.parts.now c.loop-part.part-index none c.loop-part-test.true) c.loop-part.invariant.0 c.in_default.ensures.ok,
-      omega arith,
+      c.in_default.ensures.unfailed ∙ c.loop-part.invariant.1,
     )
 
 pub returns-in-Err-clause-err : goal.returns-in-Err-clause-err

@@ -1,0 +1,13 @@
+//! The public calls of the crates for tables on rows whose answers come from outside. It holds tests
+//! alone, so that no crate is proved twice for their sake; each file is named after its crate or its
+//! subject.
+#![tactic(auto)]
+
+#[cfg(test)]
+mod file_shelf;
+#[cfg(test)]
+mod listing;
+#[cfg(test)]
+mod outside;
+#[cfg(test)]
+mod pointer;

@@ -1,0 +1,4 @@
+pub mod OrderLemmas
+pub mod PieceLemmas
+pub mod SizeLemmas
+pub mod BlockLemmas

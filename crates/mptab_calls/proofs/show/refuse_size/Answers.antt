@@ -1,4 +1,0 @@
-use Rattle.mptab_calls.proofs.show.refuse_size.Goals as goal
-
-pub returns-clause-delivered : goal.returns-clause-delivered
-returns-clause-delivered g c = rw (c.as_bytes.ensures.value, c.as_bytes-2.ensures.value, c.format-digits.ensures.text) at c.deliver_line.ensures.delivered

@@ -1,0 +1,182 @@
+-- The rows of the laws: what a new form or a new kind of file adds.
+use Rattle.std.proofs.Common.{◌≡◌, ℕ, ◌+◌, ◌^◌, ◌≤◌, ◌<◌, List, [], ◌∷◌, length, Option, Some, None, IfSome, IsSomeAnd, refl, sym, subst, ◌∙◌, ap, inl, inr, ◌⊎◌, arith}
+use Rattle.std.specs.Prelude.{codes, ⊤}
+use Rattle.std.specs.List.{AllByRecursion}
+use Rattle.mpt_base.specs.Outside.{Files}
+use Rattle.mpt_base.specs.declared.fault.Reason.{Reason}
+use Rattle.mpt_spec.specs.declared.tables.Tables.{Tables}
+use Rattle.mpt_spec.specs.Search.{HasPointerAt, HasNoPointer, search_places}
+use Rattle.mpt_spec.specs.Table.{Describes}
+use Rattle.mpt_spec.specs.Faults.{IsFirstFault}
+use Rattle.mpt_spec.specs.Canonical.{IsWellFormed}
+use Rattle.mpt_spec.proofs.SearchLemmas.{IsFirst-some}
+use Rattle.mpt_spec.proofs.TableLemmas.{Describes-unique}
+use Rattle.mpt_spec.proofs.FaultLemmas.{IsFirstFault-unique, IsFirstFault-inside, Describes-no_first_fault}
+use Rattle.mpt_listing.specs.Listing.{listing_of}
+use Rattle.mpt_base.specs.Bytes.{IsByteList}
+use Rattle.mpt_laws.specs.Laws.{IsDescribed, HasFirstFault}
+use Rattle.mpt_laws.proofs.Judgment.{image-judged}
+use Rattle.mpt_laws.proofs.EntryJudgment.{Decided, decided-list}
+use Rattle.mpt_spec.proofs.WellFormedLemmas.{Describes-well_formed, Describes-below_4_gib}
+use Rattle.mptab_calls.specs.Texts.{fault_line, no_pointer_line}
+use Rattle.mptab_calls.specs.Forms.{Form, Show, Named, Image, IsForm, IsAny, IsStill, source_of, files_of, name_of, limit_of, IsRead}
+use Rattle.mptab_calls.specs.Commands.{GivesTables, IsUnderstood, IsRefused, IsAnswerTo, IsText}
+use Rattle.mptab_calls.specs.Walk.{IsListed, IsNoForm}
+use Rattle.mptab_laws.specs.Laws.{AreBytesTold, HasOneText}
+
+-- ---- a file that is read
+
+meet : (held : Option (List ℕ)) (n : ℕ) (P Q : List ℕ → Type 0) → IsSomeAnd held (λ b. (length b ≤ n) × P b) → IsSomeAnd held (λ b. (length b ≤ n) × Q b) → (b : List ℕ) × P b × Q b
+meet None n P Q p q = absurd p
+meet (Some b) n P Q p q = (b, p.1, q.1)
+
+-- what two facts of a file's bytes are facts of
+pub IsRead-meet : (files : Files) (file : Named) (P Q : List ℕ → Type 0) → IsRead (Some files) file P → IsRead (Some files) file Q → (b : List ℕ) × P b × Q b
+IsRead-meet files file P Q p q = meet (files (name_of file)) (limit_of file) P Q p q
+
+only : (held : Option (List ℕ)) (n : ℕ) (P Q : List ℕ → Type 0) → ((b : List ℕ) → held ≡ Some b → length b ≤ n → P b → Q b) → IsSomeAnd held (λ b. (length b ≤ n) × P b) → IsSomeAnd held (λ b. (length b ≤ n) × Q b)
+only None n P Q f p = p
+only (Some b) n P Q f p = (p.0, f b refl p.0 p.1)
+
+pub IsRead-only : (files : Files) (file : Named) (P Q : List ℕ → Type 0) → ((b : List ℕ) → files (name_of file) ≡ Some b → length b ≤ limit_of file → P b → Q b) → IsRead (Some files) file P → IsRead (Some files) file Q
+IsRead-only files file P Q f p = only (files (name_of file)) (limit_of file) P Q f p
+
+taken : (held : Option (List ℕ)) (n : ℕ) (P : List ℕ → Type 0) → IsSomeAnd held (λ b. (length b ≤ n) × P b) → (b : List ℕ) × (held ≡ Some b) × (length b ≤ n) × P b
+taken None n P p = absurd p
+taken (Some b) n P p = (b, refl, p.0, p.1)
+
+pub IsRead-bytes : (files : Files) (file : Named) (P : List ℕ → Type 0) → IsRead (Some files) file P → (b : List ℕ) × (files (name_of file) ≡ Some b) × (length b ≤ limit_of file) × P b
+IsRead-bytes files file P p = taken (files (name_of file)) (limit_of file) P p
+
+given : (held : Option (List ℕ)) (n : ℕ) (P : List ℕ → Type 0) (b : List ℕ) → held ≡ Some b → length b ≤ n → P b → IsSomeAnd held (λ x. (length x ≤ n) × P x)
+given held n P b e within p = subst (λ (o : Option (List ℕ)). IsSomeAnd o (λ x. (length x ≤ n) × P x)) (sym e) (within, p)
+
+pub IsRead-of : (files : Files) (file : Named) (P : List ℕ → Type 0) (b : List ℕ) → files (name_of file) ≡ Some b → length b ≤ limit_of file → P b → IsRead (Some files) file P
+IsRead-of files file P b e within p = given (files (name_of file)) (limit_of file) P b e within p
+
+-- ---- rows of the kinds of files
+
+pub refused_read : (files : Files) (file : Named) (status : ℕ) (text : List ℕ) → IsRefused (Some files) file status text → IsRead (Some files) file (λ b. ⊤)
+refused_read files (Image name) status text (inl a) = IsRead-only files (Image name) HasNoPointer (λ b. ⊤) (λ b e w p. tt) a.1
+refused_read files (Image name) status text (inr a) = IsRead-only files (Image name) (λ image. IsFirstFault image a.1 a.2) (λ b. ⊤) (λ b e w p. tt) a.4
+
+pub understood_read : (files : Files) (file : Named) → IsUnderstood (Some files) file → IsRead (Some files) file (λ b. ⊤)
+understood_read files (Image name) u = IsRead-only files (Image name) (λ image. Describes image u.0) (λ b. ⊤) (λ b e w p. tt) u.1
+
+pub refused_not_understood : (files : Files) (file : Named) (status : ℕ) (text : List ℕ) → IsRefused (Some files) file status text → IsUnderstood (Some files) file → ⊥
+refused_not_understood files (Image name) status text (inl a) u =
+    let both = IsRead-meet files (Image name) HasNoPointer (λ image. Describes image u.0) a.1 u.1 in
+    IsFirst-some (HasPointerAt both.0) (search_places both.0) (u.0).at both.2.first both.1
+refused_not_understood files (Image name) status text (inr a) u =
+    let both = IsRead-meet files (Image name) (λ image. IsFirstFault image a.1 a.2) (λ image. Describes image u.0) a.4 u.1 in
+    Describes-no_first_fault both.0 u.0 a.1 a.2 both.2 both.1
+
+pub refused_one : (files : Files) (file : Named) (s u : ℕ) (t v : List ℕ) → IsRefused (Some files) file s t → IsRefused (Some files) file u v → (s ≡ u) × (t ≡ v)
+refused_one files (Image name) s u t v (inl a) (inl b) = (a.0 ∙ sym b.0, a.2 ∙ sym b.2)
+refused_one files (Image name) s u t v (inl a) (inr b) =
+    let both = IsRead-meet files (Image name) HasNoPointer (λ image. IsFirstFault image b.1 b.2) a.1 b.4 in
+    absurd (IsFirst-some (HasPointerAt both.0) (search_places both.0) both.2.at both.2.first both.1)
+refused_one files (Image name) s u t v (inr a) (inl b) =
+    let both = IsRead-meet files (Image name) HasNoPointer (λ image. IsFirstFault image a.1 a.2) b.1 a.4 in
+    absurd (IsFirst-some (HasPointerAt both.0) (search_places both.0) both.2.at both.2.first both.1)
+refused_one files (Image name) s u t v (inr a) (inr b) =
+    let both = IsRead-meet files (Image name) (λ image. IsFirstFault image a.1 a.2) (λ image. IsFirstFault image b.1 b.2) a.4 b.4 in
+    let same = IsFirstFault-unique both.0 a.1 b.1 a.2 b.2 both.1 both.2 in
+    (a.0 ∙ sym b.0, a.5 ∙ rw (same.0, same.1) refl ∙ sym b.5)
+
+-- what has to be understood before a file of this kind
+abbrev pub IsReady : Files → Named → Type 0
+IsReady files (Image name) = ⊤
+
+-- a file within its limit is understood or refused
+pub file_judged : (files : Files) (file : Named) (b : List ℕ) → IsReady files file → files (name_of file) ≡ Some b → length b ≤ limit_of file → IsUnderstood (Some files) file ⊎ ((s : ℕ) × (t : List ℕ) × IsRefused (Some files) file s t)
+file_judged files (Image name) b ready e within = by_case (image-judged b)
+  where
+    by_case : HasNoPointer b ⊎ (IsDescribed b ⊎ HasFirstFault b) → IsUnderstood (Some files) (Image name) ⊎ ((s : ℕ) × (t : List ℕ) × IsRefused (Some files) (Image name) s t)
+    by_case (inl none) = inr (6, no_pointer_line, inl (refl, IsRead-of files (Image name) HasNoPointer b e within none, refl))
+    by_case (inr (inl d)) = inl (d.0, IsRead-of files (Image name) (λ image. Describes image d.0) b e within d.1)
+    by_case (inr (inr f)) =
+        let inside = IsFirstFault-inside b f.0 f.1 f.2 in
+        inr (7, fault_line f.0 f.1, inr (refl, f.0, f.1, omega (arith, inside, within), IsRead-of files (Image name) (λ image. IsFirstFault image f.0 f.1) b e within f.2, refl))
+
+-- ---- rows of the forms
+
+-- each of these files is ready where those before it are understood
+abbrev pub AreReady : Files → List Named → Type 0
+AreReady files [] = ⊤
+AreReady files (f ∷ fs) = IsReady files f × (IsUnderstood (Some files) f → AreReady files fs)
+
+pub form_ready : (files : Files) (form : Form) → AreReady files (files_of form)
+form_ready files (Show i) = (tt, λ u. tt)
+
+-- the bytes of a file that is there
+told_byte : (held : Option (List ℕ)) (b : List ℕ) → held ≡ Some b → IfSome held IsByteList → IsByteList b
+told_byte held b e h = subst (λ (o : Option (List ℕ)). IfSome o IsByteList) e h
+
+-- a file gives one tables alone
+gives_one : (files : Files) (file : Named) (t u : Tables) → GivesTables (Some files) file t → GivesTables (Some files) file u → t ≡ u
+gives_one files (Image name) t u a b =
+    let both = IsRead-meet files (Image name) (λ image. Describes image t) (λ image. Describes image u) a b in
+    Describes-unique both.0 t u both.1 both.2
+
+-- and they are well formed, their place below 4 GiB
+gives_good : (files : Files) (file : Named) (t : Tables) → AreBytesTold files → GivesTables (Some files) file t → IsWellFormed t × (t.at < 2 ^ 32)
+gives_good files (Image name) t bytes gives =
+    let read = IsRead-bytes files (Image name) (λ image. Describes image t) gives in
+    let are = told_byte (files name) read.0 read.1 (bytes name) in
+    (Describes-well_formed read.0 t are read.3, Describes-below_4_gib read.0 t are read.3)
+
+-- tables give a form one answer alone
+answer_to_one : (form : Form) (tables : Tables) (s u : ℕ) (t v : List ℕ) → HasOneText form → IsAnswerTo form tables s t → IsAnswerTo form tables u v → (s ≡ u) × (t ≡ v)
+answer_to_one (Show name) tables s u t v one a b = (a.0 ∙ sym b.0, a.1 ∙ sym b.1)
+
+-- and give it one
+answer_to_some : (form : Form) (tables : Tables) → IsWellFormed tables → (s : ℕ) × (t : List ℕ) × IsAnswerTo form tables s t
+answer_to_some (Show name) tables well = (0, listing_of tables, (refl, refl))
+
+pub text_one : (files : Files) (form : Form) (s u : ℕ) (t v : List ℕ) → HasOneText form → IsText (Some files) form s t → IsText (Some files) form u v → (s ≡ u) × (t ≡ v)
+text_one files form s u t v one a b =
+    let same : a.0 ≡ b.0 = gives_one files (source_of form) a.0 b.0 a.3 b.3 in
+    answer_to_one form a.0 s u t v one a.4 (subst (λ (x : Tables). IsAnswerTo form x u v) (sym same) b.4)
+
+pub text_given : (files : Files) (form : Form) → AreBytesTold files → AllByRecursion (IsUnderstood (Some files)) (files_of form) → (s : ℕ) × (t : List ℕ) × IsText (Some files) form s t
+text_given files form bytes all =
+    let tables = all.0.0 in
+    let good = gives_good files (source_of form) tables bytes all.0.1 in
+    let answer = answer_to_some form tables good.0 in
+    (answer.0, answer.1, (tables, good.0, good.1, all.0.1, answer.2))
+
+pub same_form : (form other : Form) (words : List (List ℕ)) → IsForm form words → IsForm other words → form ≡ other
+same_form (Show i) (Show j) words a b =
+    let both : codes "show" ∷ i ∷ [] ≡ codes "show" ∷ j ∷ [] = sym a ∙ b in
+    let same : i ≡ j = cc in
+    ap Show same
+
+-- words of two: a command and a file
+two_judged : (word first : List ℕ) → Decided (word ≡ codes "show") → ((form : Form) × IsForm form (word ∷ first ∷ [])) ⊎ ((form : Form) → ¬ IsForm form (word ∷ first ∷ []))
+two_judged word first (inl e) = inl (Show first, ap (λ (w : List ℕ). w ∷ first ∷ []) e)
+two_judged word first (inr n) = inr not_form
+  where
+    not_form : (form : Form) → ¬ IsForm form (word ∷ first ∷ [])
+    not_form (Show i) e = n cc
+
+pub form_judged : (words : List (List ℕ)) → ((form : Form) × IsForm form words) ⊎ ((form : Form) → ¬ IsForm form words)
+form_judged [] = inr none
+  where
+    none : (form : Form) → ¬ IsForm form []
+    none (Show i) e = cc
+form_judged (x ∷ []) = inr none
+  where
+    none : (form : Form) → ¬ IsForm form (x ∷ [])
+    none (Show i) e = cc
+form_judged (x ∷ y ∷ []) = two_judged x y (decided-list x (codes "show"))
+form_judged (x ∷ y ∷ z ∷ zs) = inr none
+  where
+    none : (form : Form) → ¬ IsForm form (x ∷ y ∷ z ∷ zs)
+    none (Show i) e = cc
+
+pub still_judged : (form : Form) → Decided (IsStill form)
+still_judged (Show i) = inl tt
+
+pub still_one : (form : Form) → IsStill form → HasOneText form
+still_one (Show i) s = tt
