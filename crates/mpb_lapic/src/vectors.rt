@@ -30,7 +30,9 @@ impl Vectors {
     pub fn none() -> Vectors
         ensures { result ≡ [] }
     {
-        Vectors { list: ArrayVec::new() }
+        Vectors {
+            list: ArrayVec::new(),
+        }
     }
 
     /// Whether the vector is a member.

@@ -22,14 +22,14 @@ starts_a_processor_once
     : run_of two_processors (replicate 7 (next (Cpu 0)))
     ≡ record {
       entries =
-        told (op.Init 1) (at 1 what.Waiting ∷ [])
-        ∷ told (op.Pause 10000) (at 0 what.Done ∷ [])
-        ∷ told (op.Startup 1 0x9F) (at 1 (what.Started 0x9F) ∷ [])
-        ∷ told (op.Pause 200) (at 0 what.Done ∷ [])
-        ∷ told (op.Startup 1 0x9F) (at 1 what.Ignored ∷ [])
-        ∷ told (op.Pause 200) (at 0 what.Done ∷ [])
-        ∷ told (op.Check 1) (at 1 (what.Runs 0x9F) ∷ [])
-        ∷ [];
+          told (op.Init 1) (at 1 what.Waiting ∷ [])
+          ∷ told (op.Pause 10000) (at 0 what.Done ∷ [])
+          ∷ told (op.Startup 1 0x9F) (at 1 (what.Started 0x9F) ∷ [])
+          ∷ told (op.Pause 200) (at 0 what.Done ∷ [])
+          ∷ told (op.Startup 1 0x9F) (at 1 what.Ignored ∷ [])
+          ∷ told (op.Pause 200) (at 0 what.Done ∷ [])
+          ∷ told (op.Check 1) (at 1 (what.Runs 0x9F) ∷ [])
+          ∷ [];
       lines = lines imcr.Absent (cpu_line 0 life.First 0 [] [] [] ∷ cpu_line 1 (life.Started 0x9F) 0 [] [] [] ∷ []) [];
       goes_on = false;
     }
@@ -41,8 +41,8 @@ old_and_absent : Plan
 old_and_absent =
     plan 0 11
     (cpu 0 16
-      (op.Warm 0x9F ∷ op.Init 1 ∷ op.Pause 10000 ∷ op.Check 1
-      ∷ op.Init 2 ∷ op.Pause 10000 ∷ op.Startup 2 0x9F ∷ op.Pause 200 ∷ op.Startup 2 0x9F ∷ op.Pause 200 ∷ op.Check 2 ∷ [])
+    (op.Warm 0x9F ∷ op.Init 1 ∷ op.Pause 10000 ∷ op.Check 1
+    ∷ op.Init 2 ∷ op.Pause 10000 ∷ op.Startup 2 0x9F ∷ op.Pause 200 ∷ op.Startup 2 0x9F ∷ op.Pause 200 ∷ op.Check 2 ∷ [])
     ∷ cpu 1 1 [] ∷ [])
     [] false []
 
@@ -50,18 +50,18 @@ starts_an_old_processor_by_its_vector
     : run_of old_and_absent (replicate 11 (next (Cpu 0)))
     ≡ record {
       entries =
-        told (op.Warm 0x9F) (at 0 what.Done ∷ [])
-        ∷ told (op.Init 1) (at 1 (what.Started 0x9F) ∷ [])
-        ∷ told (op.Pause 10000) (at 0 what.Done ∷ [])
-        ∷ told (op.Check 1) (at 1 (what.Runs 0x9F) ∷ [])
-        ∷ told (op.Init 2) (at 2 what.Absent ∷ [])
-        ∷ told (op.Pause 10000) (at 0 what.Done ∷ [])
-        ∷ told (op.Startup 2 0x9F) (at 2 what.Absent ∷ [])
-        ∷ told (op.Pause 200) (at 0 what.Done ∷ [])
-        ∷ told (op.Startup 2 0x9F) (at 2 what.Absent ∷ [])
-        ∷ told (op.Pause 200) (at 0 what.Done ∷ [])
-        ∷ told (op.Check 2) (at 2 what.Absent ∷ [])
-        ∷ [];
+          told (op.Warm 0x9F) (at 0 what.Done ∷ [])
+          ∷ told (op.Init 1) (at 1 (what.Started 0x9F) ∷ [])
+          ∷ told (op.Pause 10000) (at 0 what.Done ∷ [])
+          ∷ told (op.Check 1) (at 1 (what.Runs 0x9F) ∷ [])
+          ∷ told (op.Init 2) (at 2 what.Absent ∷ [])
+          ∷ told (op.Pause 10000) (at 0 what.Done ∷ [])
+          ∷ told (op.Startup 2 0x9F) (at 2 what.Absent ∷ [])
+          ∷ told (op.Pause 200) (at 0 what.Done ∷ [])
+          ∷ told (op.Startup 2 0x9F) (at 2 what.Absent ∷ [])
+          ∷ told (op.Pause 200) (at 0 what.Done ∷ [])
+          ∷ told (op.Check 2) (at 2 what.Absent ∷ [])
+          ∷ [];
       lines = lines imcr.Absent (cpu_line 0 life.First 0 [] [] [] ∷ cpu_line 1 (life.Started 0x9F) 0 [] [] [] ∷ []) [];
       goes_on = false;
     }
@@ -78,27 +78,27 @@ three_pulses script =
 
 gathers_three_pulses
     : run_of (three_pulses (op.Take ∷ op.Eoi ∷ []))
-      (replicate 4 (next (Cpu 0))
-      ++ (next (Dev 0) ∷ next (Dev 1) ∷ next (Dev 2) ∷ (Io 0, Collect 2) ∷ next (Dev 0) ∷ next (Dev 1) ∷ next (Dev 2)
-      ∷ next (Io 0) ∷ next (Cpu 0) ∷ (Io 0, Sweep) ∷ next (Cpu 0) ∷ []))
+    (replicate 4 (next (Cpu 0))
+    ++ (next (Dev 0) ∷ next (Dev 1) ∷ next (Dev 2) ∷ (Io 0, Collect 2) ∷ next (Dev 0) ∷ next (Dev 1) ∷ next (Dev 2)
+    ∷ next (Io 0) ∷ next (Cpu 0) ∷ (Io 0, Sweep) ∷ next (Cpu 0) ∷ []))
     ≡ record {
       entries =
-        told (op.IoSel 0 0x13) (at 0 what.Done ∷ [])
-        ∷ told (op.IoWin 0 0) (at 0 what.Plain ∷ [])
-        ∷ told (op.IoSel 0 0x12) (at 0 what.Done ∷ [])
-        ∷ told (op.IoWin 0 0x21) (at 0 what.Plain ∷ [])
-        ∷ told op.Begin (at 0 what.Done ∷ [])
-        ∷ told op.Begin (at 0 what.Done ∷ [])
-        ∷ told op.Begin (at 0 what.Done ∷ [])
-        ∷ told (op.Collect 2) (at 0 (what.Pins 2 0) ∷ [])
-        ∷ told op.End (at 0 what.Done ∷ [])
-        ∷ told op.End (at 0 what.Done ∷ [])
-        ∷ told op.End (at 0 what.Done ∷ [])
-        ∷ told (op.Send 1) (at 0 what.Set ∷ [])
-        ∷ told op.Take (at 0 (what.Taken 0x21) ∷ [])
-        ∷ told op.Sweep (at 0 what.Done ∷ [])
-        ∷ told op.Eoi (at 0 (what.Ended 0x21 false) ∷ [])
-        ∷ [];
+          told (op.IoSel 0 0x13) (at 0 what.Done ∷ [])
+          ∷ told (op.IoWin 0 0) (at 0 what.Plain ∷ [])
+          ∷ told (op.IoSel 0 0x12) (at 0 what.Done ∷ [])
+          ∷ told (op.IoWin 0 0x21) (at 0 what.Plain ∷ [])
+          ∷ told op.Begin (at 0 what.Done ∷ [])
+          ∷ told op.Begin (at 0 what.Done ∷ [])
+          ∷ told op.Begin (at 0 what.Done ∷ [])
+          ∷ told (op.Collect 2) (at 0 (what.Pins 2 0) ∷ [])
+          ∷ told op.End (at 0 what.Done ∷ [])
+          ∷ told op.End (at 0 what.Done ∷ [])
+          ∷ told op.End (at 0 what.Done ∷ [])
+          ∷ told (op.Send 1) (at 0 what.Set ∷ [])
+          ∷ told op.Take (at 0 (what.Taken 0x21) ∷ [])
+          ∷ told op.Sweep (at 0 what.Done ∷ [])
+          ∷ told op.Eoi (at 0 (what.Ended 0x21 false) ∷ [])
+          ∷ [];
       lines = lines imcr.Absent (cpu_line 0 life.First 0 [] [] [] ∷ []) (io_line 0 0 0 ∷ []);
       goes_on = false;
     }
@@ -108,28 +108,28 @@ gathers_three_pulses = refl
 -- with a further take the processor waits at its last word, and no agent may step
 waits_at_its_last_take
     : run_of (three_pulses (op.Take ∷ op.Eoi ∷ op.Take ∷ []))
-      (replicate 4 (next (Cpu 0))
-      ++ (next (Dev 0) ∷ next (Dev 1) ∷ next (Dev 2) ∷ (Io 0, Collect 2) ∷ next (Dev 0) ∷ next (Dev 1) ∷ next (Dev 2)
-      ∷ next (Io 0) ∷ next (Cpu 0) ∷ (Io 0, Sweep) ∷ next (Cpu 0) ∷ next (Cpu 0) ∷ []))
+    (replicate 4 (next (Cpu 0))
+    ++ (next (Dev 0) ∷ next (Dev 1) ∷ next (Dev 2) ∷ (Io 0, Collect 2) ∷ next (Dev 0) ∷ next (Dev 1) ∷ next (Dev 2)
+    ∷ next (Io 0) ∷ next (Cpu 0) ∷ (Io 0, Sweep) ∷ next (Cpu 0) ∷ next (Cpu 0) ∷ []))
     ≡ record {
       entries =
-        told (op.IoSel 0 0x13) (at 0 what.Done ∷ [])
-        ∷ told (op.IoWin 0 0) (at 0 what.Plain ∷ [])
-        ∷ told (op.IoSel 0 0x12) (at 0 what.Done ∷ [])
-        ∷ told (op.IoWin 0 0x21) (at 0 what.Plain ∷ [])
-        ∷ told op.Begin (at 0 what.Done ∷ [])
-        ∷ told op.Begin (at 0 what.Done ∷ [])
-        ∷ told op.Begin (at 0 what.Done ∷ [])
-        ∷ told (op.Collect 2) (at 0 (what.Pins 2 0) ∷ [])
-        ∷ told op.End (at 0 what.Done ∷ [])
-        ∷ told op.End (at 0 what.Done ∷ [])
-        ∷ told op.End (at 0 what.Done ∷ [])
-        ∷ told (op.Send 1) (at 0 what.Set ∷ [])
-        ∷ told op.Take (at 0 (what.Taken 0x21) ∷ [])
-        ∷ told op.Sweep (at 0 what.Done ∷ [])
-        ∷ told op.Eoi (at 0 (what.Ended 0x21 false) ∷ [])
-        ∷ refused
-        ∷ [];
+          told (op.IoSel 0 0x13) (at 0 what.Done ∷ [])
+          ∷ told (op.IoWin 0 0) (at 0 what.Plain ∷ [])
+          ∷ told (op.IoSel 0 0x12) (at 0 what.Done ∷ [])
+          ∷ told (op.IoWin 0 0x21) (at 0 what.Plain ∷ [])
+          ∷ told op.Begin (at 0 what.Done ∷ [])
+          ∷ told op.Begin (at 0 what.Done ∷ [])
+          ∷ told op.Begin (at 0 what.Done ∷ [])
+          ∷ told (op.Collect 2) (at 0 (what.Pins 2 0) ∷ [])
+          ∷ told op.End (at 0 what.Done ∷ [])
+          ∷ told op.End (at 0 what.Done ∷ [])
+          ∷ told op.End (at 0 what.Done ∷ [])
+          ∷ told (op.Send 1) (at 0 what.Set ∷ [])
+          ∷ told op.Take (at 0 (what.Taken 0x21) ∷ [])
+          ∷ told op.Sweep (at 0 what.Done ∷ [])
+          ∷ told op.Eoi (at 0 (what.Ended 0x21 false) ∷ [])
+          ∷ refused
+          ∷ [];
       lines = lines imcr.Absent (cpu_line 0 life.First 0 [] [] [] ∷ []) (io_line 0 0 0 ∷ []);
       goes_on = false;
     }
@@ -141,14 +141,14 @@ reads_the_version
     : run_of (three_pulses (op.IoSel 0 1 ∷ op.IoRead 0 ∷ op.Poll ∷ [])) (replicate 7 (next (Cpu 0)))
     ≡ record {
       entries =
-        told (op.IoSel 0 0x13) (at 0 what.Done ∷ [])
-        ∷ told (op.IoWin 0 0) (at 0 what.Plain ∷ [])
-        ∷ told (op.IoSel 0 0x12) (at 0 what.Done ∷ [])
-        ∷ told (op.IoWin 0 0x21) (at 0 what.Plain ∷ [])
-        ∷ told (op.IoSel 0 1) (at 0 what.Done ∷ [])
-        ∷ told (op.IoRead 0) (at 0 (what.Read 0x170011) ∷ [])
-        ∷ told op.Poll (at 0 what.Nothing ∷ [])
-        ∷ [];
+          told (op.IoSel 0 0x13) (at 0 what.Done ∷ [])
+          ∷ told (op.IoWin 0 0) (at 0 what.Plain ∷ [])
+          ∷ told (op.IoSel 0 0x12) (at 0 what.Done ∷ [])
+          ∷ told (op.IoWin 0 0x21) (at 0 what.Plain ∷ [])
+          ∷ told (op.IoSel 0 1) (at 0 what.Done ∷ [])
+          ∷ told (op.IoRead 0) (at 0 (what.Read 0x170011) ∷ [])
+          ∷ told op.Poll (at 0 what.Nothing ∷ [])
+          ∷ [];
       lines = lines imcr.Absent (cpu_line 0 life.First 0 [] [] [] ∷ []) (io_line 0 0 0 ∷ []);
       goes_on = true;
     }
@@ -164,23 +164,23 @@ level_pin words =
 
 sends_again_while_the_line_stays_high
     : run_of (level_pin (word.High 0 16 ∷ []))
-      (replicate 4 (next (Cpu 0))
-      ++ (next (Dev 0) ∷ next (Dev 0) ∷ next (Io 0) ∷ next (Dev 0) ∷ next (Cpu 0) ∷ (Io 0, Sweep) ∷ next (Cpu 0) ∷ next (Io 0) ∷ []))
+    (replicate 4 (next (Cpu 0))
+    ++ (next (Dev 0) ∷ next (Dev 0) ∷ next (Io 0) ∷ next (Dev 0) ∷ next (Cpu 0) ∷ (Io 0, Sweep) ∷ next (Cpu 0) ∷ next (Io 0) ∷ []))
     ≡ record {
       entries =
-        told (op.IoSel 0 0x31) (at 0 what.Done ∷ [])
-        ∷ told (op.IoWin 0 0) (at 0 what.Plain ∷ [])
-        ∷ told (op.IoSel 0 0x30) (at 0 what.Done ∷ [])
-        ∷ told (op.IoWin 0 0xA030) (at 0 what.Plain ∷ [])
-        ∷ told op.Begin (at 0 what.Done ∷ [])
-        ∷ told (op.High 0 16) (at 0 what.Due ∷ [])
-        ∷ told (op.Send 16) (at 0 what.Set ∷ [])
-        ∷ told op.End (at 0 what.Done ∷ [])
-        ∷ told op.Take (at 0 (what.Taken 0x30) ∷ [])
-        ∷ told op.Sweep (at 0 what.Done ∷ [])
-        ∷ told op.Eoi (at 0 (what.Ended 0x30 true) ∷ [])
-        ∷ told (op.Send 16) (at 0 what.Set ∷ [])
-        ∷ [];
+          told (op.IoSel 0 0x31) (at 0 what.Done ∷ [])
+          ∷ told (op.IoWin 0 0) (at 0 what.Plain ∷ [])
+          ∷ told (op.IoSel 0 0x30) (at 0 what.Done ∷ [])
+          ∷ told (op.IoWin 0 0xA030) (at 0 what.Plain ∷ [])
+          ∷ told op.Begin (at 0 what.Done ∷ [])
+          ∷ told (op.High 0 16) (at 0 what.Due ∷ [])
+          ∷ told (op.Send 16) (at 0 what.Set ∷ [])
+          ∷ told op.End (at 0 what.Done ∷ [])
+          ∷ told op.Take (at 0 (what.Taken 0x30) ∷ [])
+          ∷ told op.Sweep (at 0 what.Done ∷ [])
+          ∷ told op.Eoi (at 0 (what.Ended 0x30 true) ∷ [])
+          ∷ told (op.Send 16) (at 0 what.Set ∷ [])
+          ∷ [];
       lines = lines imcr.Absent (cpu_line 0 life.First 0 (0x30 ∷ []) [] (0x30 ∷ []) ∷ []) (io_line 0x10000 0 0x10000 ∷ []);
       goes_on = false;
     }
@@ -190,24 +190,24 @@ sends_again_while_the_line_stays_high = refl
 -- the line falls before the end of interrupt: one send
 sends_once_where_the_line_falls
     : run_of (level_pin (word.High 0 16 ∷ word.Low 0 16 ∷ []))
-      (replicate 4 (next (Cpu 0))
-      ++ (next (Dev 0) ∷ next (Dev 0) ∷ next (Io 0) ∷ next (Dev 0) ∷ next (Cpu 0) ∷ next (Dev 0) ∷ next (Cpu 0) ∷ (Io 0, Sweep) ∷ next (Io 0) ∷ []))
+    (replicate 4 (next (Cpu 0))
+    ++ (next (Dev 0) ∷ next (Dev 0) ∷ next (Io 0) ∷ next (Dev 0) ∷ next (Cpu 0) ∷ next (Dev 0) ∷ next (Cpu 0) ∷ (Io 0, Sweep) ∷ next (Io 0) ∷ []))
     ≡ record {
       entries =
-        told (op.IoSel 0 0x31) (at 0 what.Done ∷ [])
-        ∷ told (op.IoWin 0 0) (at 0 what.Plain ∷ [])
-        ∷ told (op.IoSel 0 0x30) (at 0 what.Done ∷ [])
-        ∷ told (op.IoWin 0 0xA030) (at 0 what.Plain ∷ [])
-        ∷ told op.Begin (at 0 what.Done ∷ [])
-        ∷ told (op.High 0 16) (at 0 what.Due ∷ [])
-        ∷ told (op.Send 16) (at 0 what.Set ∷ [])
-        ∷ told (op.Low 0 16) (at 0 what.Plain ∷ [])
-        ∷ told op.Take (at 0 (what.Taken 0x30) ∷ [])
-        ∷ told op.End (at 0 what.Done ∷ [])
-        ∷ told op.Eoi (at 0 (what.Ended 0x30 true) ∷ [])
-        ∷ told op.Sweep (at 0 what.Done ∷ [])
-        ∷ refused
-        ∷ [];
+          told (op.IoSel 0 0x31) (at 0 what.Done ∷ [])
+          ∷ told (op.IoWin 0 0) (at 0 what.Plain ∷ [])
+          ∷ told (op.IoSel 0 0x30) (at 0 what.Done ∷ [])
+          ∷ told (op.IoWin 0 0xA030) (at 0 what.Plain ∷ [])
+          ∷ told op.Begin (at 0 what.Done ∷ [])
+          ∷ told (op.High 0 16) (at 0 what.Due ∷ [])
+          ∷ told (op.Send 16) (at 0 what.Set ∷ [])
+          ∷ told (op.Low 0 16) (at 0 what.Plain ∷ [])
+          ∷ told op.Take (at 0 (what.Taken 0x30) ∷ [])
+          ∷ told op.End (at 0 what.Done ∷ [])
+          ∷ told op.Eoi (at 0 (what.Ended 0x30 true) ∷ [])
+          ∷ told op.Sweep (at 0 what.Done ∷ [])
+          ∷ refused
+          ∷ [];
       lines = lines imcr.Absent (cpu_line 0 life.First 0 [] [] (0x30 ∷ []) ∷ []) (io_line 0 0 0 ∷ []);
       goes_on = false;
     }

@@ -4,8 +4,7 @@
 --     with_number v xs   the set with v
 --     without v xs       the set without v
 --     greatest xs        the greatest member
---     has_bit mask n     bit n of a mask is set
-use Rattle.std.specs.Prelude.{◌==◌, ℕ, ◌<◌, ◌-◌, ◌/◌, ◌%◌, ◌^◌, length, slice_get, Bool, not, List, [], ◌∷◌, ◌++◌, Option, nat_lt, filter}
+use Rattle.std.specs.Prelude.{◌==◌, ℕ, ◌<◌, ◌-◌, length, slice_get, Bool, not, List, [], ◌∷◌, ◌++◌, Option, nat_lt, filter}
 use Rattle.std.specs.List.{list_any, AllByRecursion}
 
 -- v is a member
@@ -28,7 +27,3 @@ without v xs = filter (λ x. not (x == v)) xs
 -- the greatest member of an ascending list is its last
 abbrev pub greatest : List ℕ → Option ℕ
 greatest xs = slice_get xs (length xs - 1)
-
--- bit n of a mask is set
-abbrev pub has_bit : ℕ → ℕ → Bool
-has_bit mask n = mask / 2 ^ n % 2 == 1
