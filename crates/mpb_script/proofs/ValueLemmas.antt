@@ -118,9 +118,9 @@ not-true false e = refl
 table_right : (earlier : List Data) (t : Data) (ts : List Data) → wrong_cpus earlier (t ∷ ts) ≡ None → (is_new_id earlier (id_of t) ≡ true) × (wrong_cpus (earlier ++ t ∷ []) ts ≡ None)
 unfolding wrong_cpu
 table_right earlier t ts none = (
-    is_right (is_new_id earlier (id_of t)) key.CpuId (none_first (unless (is_new_id earlier (id_of t)) key.CpuId) _ (none_first (wrong_cpu earlier t) (wrong_cpus (earlier ++ t ∷ []) ts) none)),
-    none_second (wrong_cpu earlier t) (wrong_cpus (earlier ++ t ∷ []) ts) none,
-  )
+  is_right (is_new_id earlier (id_of t)) key.CpuId (none_first (unless (is_new_id earlier (id_of t)) key.CpuId) _ (none_first (wrong_cpu earlier t) (wrong_cpus (earlier ++ t ∷ []) ts) none)),
+  none_second (wrong_cpu earlier t) (wrong_cpus (earlier ++ t ∷ []) ts) none,
+)
 
 -- an id that is none of the earlier tables isn't this table's
 apart_from : (earlier : List Data) (t : Data) (o : Option ℕ) → Covers earlier t → is_new_id earlier o ≡ true → (p : Option ℕ) → id_of t ≡ p → is_number (number_or_zero o) p ≡ false
@@ -141,8 +141,7 @@ ids_distinct : (earlier ts : List Data) → wrong_cpus earlier ts ≡ None → I
 unfolding IsDistinct
 ids_distinct earlier [] none = tt
 ids_distinct earlier (t ∷ ts) none =
-    let right = table_right earlier t ts none in
-    (
+    let right = table_right earlier t ts none in (
       apart (cpu_id t) t (new_is_some earlier (id_of t) right.0) (earlier ++ t ∷ []) ts (Covers-last earlier t) right.1,
       ids_distinct (earlier ++ t ∷ []) ts right.1,
     )
