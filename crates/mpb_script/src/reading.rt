@@ -20,6 +20,9 @@ use mpt_spec::Sequence;
 use std::alloc::{AllocError, Global};
 use toml::Value;
 
+/// The greatest number of words that a script has.
+const MOST_WORDS: u32 = 8192;
+
 // the numbers of an array
 fn numbers(alloc: Global, values: &[Value]) -> Result<Sequence<u8>, AllocError>
     ensures { IfOk result (λ v. v ≡ map (number_in 254) (map view values.now)) }
@@ -80,10 +83,10 @@ fn read(alloc: Global, document: &Value) -> Result<Script, ScriptFault>
     if let Some(name) = wrong_key(document) {
         return Err(ScriptFault::Key { name });
     }
-    let n = count_words(elements_at(document, "cpu")).saturating_add(count_words(elements_at(
-        document, "device",
-    )));
-    if n > 8192 {
+    let of_cpus = count_words(elements_at(document, "cpu"));
+    let of_devices = count_words(elements_at(document, "device"));
+    let n = of_cpus.saturating_add(of_devices);
+    if n > MOST_WORDS {
         return Err(ScriptFault::Many { n });
     }
     match script(alloc, document) {

@@ -1,9 +1,12 @@
 -- What a word says has the values of its kind.
 use Rattle.std.proofs.Common.{◌≡◌, ℕ, ◌<◌, ◌≤◌, ◌^◌, Bool, true, false, cond, ◌&&◌, ◌==◌, List, [], ◌∷◌, length, map, slice_index, Option, Some, None, is_some, Result, Ok, Err, codes, refl, subst, arith, nat_le}
-use Rattle.std.proofs.lemmas.Bool.{leb-true, eqb-true}
+use Rattle.std.proofs.lemmas.Bool.{leb-true, le-leb, eqb-true}
 use Rattle.std.specs.List.{list_all}
 use Rattle.mpb_spec.specs.declared.agent.Op.{Op}
+use Rattle.mpb_spec.specs.declared.agent.Op.TheVariants as op
 use Rattle.mpb_spec.specs.declared.config.DevWord.{DevWord}
+use Rattle.mpb_spec.specs.declared.config.DevWord.TheVariants as dev
+use Rattle.mpb_spec.specs.Configs.{is_script_op, IsOpOn, IsWordOn}
 use Rattle.mpb_words.specs.declared.refusal.WordWhy.{WordWhy}
 use Rattle.mpb_words.specs.declared.refusal.WordWhy.TheVariants as why
 use Rattle.mpb_words.specs.declared.names.CpuName.{CpuName}
@@ -109,3 +112,23 @@ device_in (t ∷ parts) w e = named_device (device_name_of t) parts w e
 pub device_word_of-values : (word : List ℕ) (w : DevWord) → device_word_of word ≡ Ok w → IsDeviceWord w
 unfolding device_word_of
 device_word_of-values word w e = device_in (parts_of word) w e
+
+-- an operation of a processor's script, at one of four places
+pub IsCpuWord-script : (op : Op) → IsCpuWord op → (is_script_op op ≡ true) × IsOpOn 4 op
+IsCpuWord-script (op.Ipi d v) has = (refl, tt)
+IsCpuWord-script (op.Nmi d) has = (refl, tt)
+IsCpuWord-script op.Take has = (refl, tt)
+IsCpuWord-script op.Poll has = (refl, tt)
+IsCpuWord-script op.Eoi has = (refl, tt)
+IsCpuWord-script (op.Tpr n) has = (refl, tt)
+IsCpuWord-script (op.IoSel a r) has = (refl, has.0)
+IsCpuWord-script (op.IoWin a v) has = (refl, has.0)
+IsCpuWord-script (op.IoRead a) has = (refl, has)
+IsCpuWord-script (op.Pause us) has = (le-leb us 1000000 has, tt)
+IsCpuWord-script _ has = absurd has
+
+-- a word of a device, at one of four places
+pub IsDeviceWord-on : (w : DevWord) → IsDeviceWord w → IsWordOn 4 w
+IsDeviceWord-on (dev.Pulse a pin) has = has
+IsDeviceWord-on (dev.High a pin) has = has
+IsDeviceWord-on (dev.Low a pin) has = has
