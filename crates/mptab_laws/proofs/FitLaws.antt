@@ -18,14 +18,14 @@ both (inl a) (inl b) = inl (a, b)
 both (inl a) (inr n) = inr (λ p. n p.1)
 both (inr n) d = inr (λ p. n p.0)
 
+neither : {A B : Type 0} → ¬ A → ¬ B → A ⊎ B → ⊥
+neither n m (inl a) = n a
+neither n m (inr b) = m b
+
 either : {A B : Type 0} → Decided A → Decided B → Decided (A ⊎ B)
 either (inl a) d = inl (inl a)
 either (inr n) (inl b) = inl (inr b)
-either (inr n) (inr m) = inr neither
-  where
-    neither : A ⊎ B → ⊥
-    neither (inl a) = n a
-    neither (inr b) = m b
+either (inr n) (inr m) = inr (neither n m)
 
 not : {A : Type 0} → Decided A → Decided (¬ A)
 not (inl a) = inr (λ n. n a)

@@ -16,9 +16,12 @@ use Rattle.mpt_parse.proofs.Unique.{bad_line_is_one, listing_is_not_bad, listing
 use Rattle.mpt_listing_laws.proofs.Complete.{every_text}
 use Rattle.mpt_route.specs.Platform.{platform_of}
 use Rattle.mpt_route.specs.Routes.{routes_of}
+use Rattle.mpt_rules.specs.declared.rule.Finding.{Finding}
+use Rattle.mpt_audit.specs.Findings.{AreFindingsOf}
 use Rattle.mpt_answers.specs.Elcr.{elcr_of}
 use Rattle.mpt_answers.specs.RouteLines.{routes_text}
 use Rattle.mpt_answers.specs.FindingLines.{findings_text}
+use Rattle.mpt_audit.proofs.OneLemmas.{findings-one}
 use Rattle.mptab_laws.proofs.FitLaws.{fits_decided}
 use Rattle.mpt_spec.proofs.SearchLemmas.{IsFirst-some}
 use Rattle.mpt_spec.proofs.TableLemmas.{Describes-unique}
@@ -29,9 +32,8 @@ use Rattle.mpt_laws.specs.Laws.{IsDescribed, HasFirstFault}
 use Rattle.mpt_laws.proofs.Judgment.{image-judged}
 use Rattle.mpt_laws.proofs.EntryJudgment.{Decided, decided-list}
 use Rattle.mpt_spec.proofs.WellFormedLemmas.{Describes-well_formed, Describes-below_4_gib}
-use Rattle.mptab_calls.specs.Texts.{fault_line, no_pointer_line, bad_line_line, unfit_line}
 use Rattle.mptab_calls.specs.Forms.{Form, Show, Audit, Canon, Build, Route, Named, Image, Listing, IsForm, IsAny, IsStill, source_of, files_of, name_of, limit_of, IsRead}
-use Rattle.mptab_calls.specs.Commands.{status_of, GivesTables, IsUnderstood, IsRefused, IsAnswerTo, IsText}
+use Rattle.mptab_calls.specs.Commands.{fault_line, no_pointer_line, bad_line_line, unfit_line, status_of, GivesTables, IsUnderstood, IsRefused, IsAnswerTo, IsText}
 use Rattle.mptab_calls.specs.Walk.{IsListed, IsNoForm}
 use Rattle.mptab_laws.specs.Laws.{AreBytesTold, HasOneText}
 
@@ -135,8 +137,8 @@ file_judged files (Image name) b ready e within = by_case (image-judged b)
 file_judged files (Listing name) b ready e within = by_case (every_text b)
   where
     fit : (t : Tables) → IsListingOf t b → Decided (FitsInImage t) → IsUnderstood (Some files) (Listing name) ⊎ ((s : ℕ) × (u : List ℕ) × IsRefused (Some files) (Listing name) s u)
-    fit t lists (inl yes) = inl (t, (yes, IsRead-of files (Listing name) (IsListingOf t) b e within lists))
-    fit t lists (inr no) = inr (8, unfit_line (block_size t.body), inr (refl, t, IsRead-of files (Listing name) (IsListingOf t) b e within lists, no, refl))
+    fit t lists (inl fitting) = inl (t, (fitting, IsRead-of files (Listing name) (IsListingOf t) b e within lists))
+    fit t lists (inr unfit) = inr (8, unfit_line (block_size t.body), inr (refl, t, IsRead-of files (Listing name) (IsListingOf t) b e within lists, unfit, refl))
 
     by_case : ((t : Tables) × IsListingOf t b) ⊎ ((n : ℕ) × (w : LineWhy) × IsFirstBadLine IsListing b n w) → IsUnderstood (Some files) (Listing name) ⊎ ((s : ℕ) × (u : List ℕ) × IsRefused (Some files) (Listing name) s u)
     by_case (inl d) = fit d.0 d.1 (fits_decided d.0)
@@ -177,7 +179,7 @@ gives_good files (Listing name) t bytes gives = (gives.0.well_formed, omega (ari
 answer_to_one : (form : Form) (tables : Tables) (s u : ℕ) (t v : List ℕ) → HasOneText form → IsAnswerTo form tables s t → IsAnswerTo form tables u v → (s ≡ u) × (t ≡ v)
 answer_to_one (Show name) tables s u t v one a b = (a.0 ∙ sym b.0, a.1 ∙ sym b.1)
 answer_to_one (Audit name) tables s u t v one a b =
-    let same = findings_one tables a.0 b.0 a.1 b.1 in
+    let same = findings-one tables a.0 b.0 a.1 b.1 in
     (a.2 ∙ ap status_of same ∙ sym b.2, a.3 ∙ ap findings_text same ∙ sym b.3)
 answer_to_one (Canon name) tables s u t v one (inl a) (inl b) = (a.0 ∙ sym b.0, a.2 ∙ sym b.2)
 answer_to_one (Canon name) tables s u t v one (inl a) (inr b) = absurd (b.1 a.1)
@@ -186,6 +188,10 @@ answer_to_one (Canon name) tables s u t v one (inr a) (inr b) = (a.0 ∙ sym b.0
 answer_to_one (Build name) tables s u t v one a b = (a.0 ∙ sym b.0, a.1 ∙ sym b.1)
 answer_to_one (Route name elcr) tables s u t v one a b = (a.0 ∙ sym b.0, a.1 ∙ sym b.1)
 
+-- well formed tables have findings
+findings_some : (tables : Tables) → IsWellFormed tables → (fs : List Finding) × AreFindingsOf tables fs
+findings_some tables well = ?
+
 -- and give it one
 answer_to_some : (form : Form) (tables : Tables) → IsWellFormed tables → (s : ℕ) × (t : List ℕ) × IsAnswerTo form tables s t
 answer_to_some (Show name) tables well = (0, listing_of tables, (refl, refl))
@@ -193,8 +199,8 @@ answer_to_some (Audit name) tables well = let found = findings_some tables well 
 answer_to_some (Canon name) tables well = by_fit (fits_decided tables)
   where
     by_fit : Decided (FitsInImage tables) → (s : ℕ) × (t : List ℕ) × IsAnswerTo (Canon name) tables s t
-    by_fit (inl yes) = (0, image_of (canonical_of tables), inl (refl, yes, refl))
-    by_fit (inr no) = (8, unfit_line (block_size tables.body), inr (refl, no, refl))
+    by_fit (inl fitting) = (0, image_of (canonical_of tables), inl (refl, fitting, refl))
+    by_fit (inr unfit) = (8, unfit_line (block_size tables.body), inr (refl, unfit, refl))
 answer_to_some (Build name) tables well = (0, image_of tables, (refl, refl))
 answer_to_some (Route name elcr) tables well = (0, routes_text (routes_of (platform_of tables) elcr), (refl, refl))
 
@@ -210,6 +216,49 @@ text_given files form bytes all =
     let answer = answer_to_some form tables good.0 in
     (answer.0, answer.1, (tables, good.0, good.1, all.0.1, answer.2))
 
+-- the first byte of the first word tells the forms apart
+first_byte : List (List ℕ) → ℕ
+first_byte [] = 0
+first_byte ([] ∷ words) = 0
+first_byte ((b ∷ bs) ∷ words) = b
+
+abbrev byte_of : Form → ℕ
+byte_of (Show i) = 115
+byte_of (Audit i) = 97
+byte_of (Canon i) = 99
+byte_of (Build i) = 98
+byte_of (Route i n) = 114
+
+first_byte_of : (form : Form) (words : List (List ℕ)) → IsForm form words → first_byte words ≡ byte_of form
+unfolding first_byte
+first_byte_of (Show i) words e = ap first_byte e
+first_byte_of (Audit i) words e = ap first_byte e
+first_byte_of (Canon i) words e = ap first_byte e
+first_byte_of (Build i) words e = ap first_byte e
+first_byte_of (Route i n) words e = ap first_byte e.1
+
+-- how many words a form has
+abbrev words_in : Form → ℕ
+words_in (Show i) = 2
+words_in (Audit i) = 2
+words_in (Canon i) = 2
+words_in (Build i) = 2
+words_in (Route i n) = 3
+
+word_count : (form : Form) (words : List (List ℕ)) → IsForm form words → length words ≡ words_in form
+word_count (Show i) words e = ap length e
+word_count (Audit i) words e = ap length e
+word_count (Canon i) words e = ap length e
+word_count (Build i) words e = ap length e
+word_count (Route i n) words e = ap length e.1
+
+few_or_three : (form : Form) → (2 ≤ words_in form) × (words_in form ≤ 3)
+few_or_three (Show i) = (omega arith, omega arith)
+few_or_three (Audit i) = (omega arith, omega arith)
+few_or_three (Canon i) = (omega arith, omega arith)
+few_or_three (Build i) = (omega arith, omega arith)
+few_or_three (Route i n) = (omega arith, omega arith)
+
 pub same_form : (form other : Form) (words : List (List ℕ)) → IsForm form words → IsForm other words → form ≡ other
 same_form (Show i) (Show j) words a b = let both : codes "show" ∷ i ∷ [] ≡ codes "show" ∷ j ∷ [] = sym a ∙ b in let same : i ≡ j = cc in ap Show same
 same_form (Audit i) (Audit j) words a b = let both : codes "audit" ∷ i ∷ [] ≡ codes "audit" ∷ j ∷ [] = sym a ∙ b in let same : i ≡ j = cc in ap Audit same
@@ -222,26 +271,26 @@ same_form (Route i n) (Route j m) words a b =
     let numbers : Some n ≡ Some m = sym a.2 ∙ ap elcr_of word ∙ b.2 in
     let number : n ≡ m = cc in
     rw (same, number) refl
-same_form (Show i) (Audit j) words a b = let e : codes "show" ∷ i ∷ [] ≡ codes "audit" ∷ j ∷ [] = sym a ∙ b in absurd cc
-same_form (Show i) (Canon j) words a b = let e : codes "show" ∷ i ∷ [] ≡ codes "canon" ∷ j ∷ [] = sym a ∙ b in absurd cc
-same_form (Show i) (Build j) words a b = let e : codes "show" ∷ i ∷ [] ≡ codes "build" ∷ j ∷ [] = sym a ∙ b in absurd cc
-same_form (Show i) (Route j m) words a b = let e : codes "show" ∷ i ∷ [] ≡ codes "route" ∷ j ∷ b.0 ∷ [] = sym a ∙ b.1 in absurd cc
-same_form (Audit i) (Show j) words a b = let e : codes "audit" ∷ i ∷ [] ≡ codes "show" ∷ j ∷ [] = sym a ∙ b in absurd cc
-same_form (Audit i) (Canon j) words a b = let e : codes "audit" ∷ i ∷ [] ≡ codes "canon" ∷ j ∷ [] = sym a ∙ b in absurd cc
-same_form (Audit i) (Build j) words a b = let e : codes "audit" ∷ i ∷ [] ≡ codes "build" ∷ j ∷ [] = sym a ∙ b in absurd cc
-same_form (Audit i) (Route j m) words a b = let e : codes "audit" ∷ i ∷ [] ≡ codes "route" ∷ j ∷ b.0 ∷ [] = sym a ∙ b.1 in absurd cc
-same_form (Canon i) (Show j) words a b = let e : codes "canon" ∷ i ∷ [] ≡ codes "show" ∷ j ∷ [] = sym a ∙ b in absurd cc
-same_form (Canon i) (Audit j) words a b = let e : codes "canon" ∷ i ∷ [] ≡ codes "audit" ∷ j ∷ [] = sym a ∙ b in absurd cc
-same_form (Canon i) (Build j) words a b = let e : codes "canon" ∷ i ∷ [] ≡ codes "build" ∷ j ∷ [] = sym a ∙ b in absurd cc
-same_form (Canon i) (Route j m) words a b = let e : codes "canon" ∷ i ∷ [] ≡ codes "route" ∷ j ∷ b.0 ∷ [] = sym a ∙ b.1 in absurd cc
-same_form (Build i) (Show j) words a b = let e : codes "build" ∷ i ∷ [] ≡ codes "show" ∷ j ∷ [] = sym a ∙ b in absurd cc
-same_form (Build i) (Audit j) words a b = let e : codes "build" ∷ i ∷ [] ≡ codes "audit" ∷ j ∷ [] = sym a ∙ b in absurd cc
-same_form (Build i) (Canon j) words a b = let e : codes "build" ∷ i ∷ [] ≡ codes "canon" ∷ j ∷ [] = sym a ∙ b in absurd cc
-same_form (Build i) (Route j m) words a b = let e : codes "build" ∷ i ∷ [] ≡ codes "route" ∷ j ∷ b.0 ∷ [] = sym a ∙ b.1 in absurd cc
-same_form (Route i n) (Show j) words a b = let e : codes "route" ∷ i ∷ a.0 ∷ [] ≡ codes "show" ∷ j ∷ [] = sym a.1 ∙ b in absurd cc
-same_form (Route i n) (Audit j) words a b = let e : codes "route" ∷ i ∷ a.0 ∷ [] ≡ codes "audit" ∷ j ∷ [] = sym a.1 ∙ b in absurd cc
-same_form (Route i n) (Canon j) words a b = let e : codes "route" ∷ i ∷ a.0 ∷ [] ≡ codes "canon" ∷ j ∷ [] = sym a.1 ∙ b in absurd cc
-same_form (Route i n) (Build j) words a b = let e : codes "route" ∷ i ∷ a.0 ∷ [] ≡ codes "build" ∷ j ∷ [] = sym a.1 ∙ b in absurd cc
+same_form (Show i) (Audit j) words a b = let e = sym (first_byte_of (Show i) words a) ∙ first_byte_of (Audit j) words b in absurd (omega (arith, e))
+same_form (Show i) (Canon j) words a b = let e = sym (first_byte_of (Show i) words a) ∙ first_byte_of (Canon j) words b in absurd (omega (arith, e))
+same_form (Show i) (Build j) words a b = let e = sym (first_byte_of (Show i) words a) ∙ first_byte_of (Build j) words b in absurd (omega (arith, e))
+same_form (Show i) (Route j m) words a b = let e = sym (first_byte_of (Show i) words a) ∙ first_byte_of (Route j m) words b in absurd (omega (arith, e))
+same_form (Audit i) (Show j) words a b = let e = sym (first_byte_of (Audit i) words a) ∙ first_byte_of (Show j) words b in absurd (omega (arith, e))
+same_form (Audit i) (Canon j) words a b = let e = sym (first_byte_of (Audit i) words a) ∙ first_byte_of (Canon j) words b in absurd (omega (arith, e))
+same_form (Audit i) (Build j) words a b = let e = sym (first_byte_of (Audit i) words a) ∙ first_byte_of (Build j) words b in absurd (omega (arith, e))
+same_form (Audit i) (Route j m) words a b = let e = sym (first_byte_of (Audit i) words a) ∙ first_byte_of (Route j m) words b in absurd (omega (arith, e))
+same_form (Canon i) (Show j) words a b = let e = sym (first_byte_of (Canon i) words a) ∙ first_byte_of (Show j) words b in absurd (omega (arith, e))
+same_form (Canon i) (Audit j) words a b = let e = sym (first_byte_of (Canon i) words a) ∙ first_byte_of (Audit j) words b in absurd (omega (arith, e))
+same_form (Canon i) (Build j) words a b = let e = sym (first_byte_of (Canon i) words a) ∙ first_byte_of (Build j) words b in absurd (omega (arith, e))
+same_form (Canon i) (Route j m) words a b = let e = sym (first_byte_of (Canon i) words a) ∙ first_byte_of (Route j m) words b in absurd (omega (arith, e))
+same_form (Build i) (Show j) words a b = let e = sym (first_byte_of (Build i) words a) ∙ first_byte_of (Show j) words b in absurd (omega (arith, e))
+same_form (Build i) (Audit j) words a b = let e = sym (first_byte_of (Build i) words a) ∙ first_byte_of (Audit j) words b in absurd (omega (arith, e))
+same_form (Build i) (Canon j) words a b = let e = sym (first_byte_of (Build i) words a) ∙ first_byte_of (Canon j) words b in absurd (omega (arith, e))
+same_form (Build i) (Route j m) words a b = let e = sym (first_byte_of (Build i) words a) ∙ first_byte_of (Route j m) words b in absurd (omega (arith, e))
+same_form (Route i n) (Show j) words a b = let e = sym (first_byte_of (Route i n) words a) ∙ first_byte_of (Show j) words b in absurd (omega (arith, e))
+same_form (Route i n) (Audit j) words a b = let e = sym (first_byte_of (Route i n) words a) ∙ first_byte_of (Audit j) words b in absurd (omega (arith, e))
+same_form (Route i n) (Canon j) words a b = let e = sym (first_byte_of (Route i n) words a) ∙ first_byte_of (Canon j) words b in absurd (omega (arith, e))
+same_form (Route i n) (Build j) words a b = let e = sym (first_byte_of (Route i n) words a) ∙ first_byte_of (Build j) words b in absurd (omega (arith, e))
 
 abbrev IsJudged : List (List ℕ) → Type 0
 IsJudged words = ((form : Form) × IsForm form words) ⊎ ((form : Form) → ¬ IsForm form words)
@@ -259,7 +308,7 @@ two_judged word first (inr s) (inr a) (inr c) (inr b) = inr not_form
     not_form (Audit i) e = a cc
     not_form (Canon i) e = c cc
     not_form (Build i) e = b cc
-    not_form (Route i n) (w, e, is) = cc
+    not_form (Route i n) is = let count = word_count (Route i n) (word ∷ first ∷ []) is in omega (arith, count)
 
 -- words of three: a command, a file and a word
 three_judged : (word first third : List ℕ) (n : Option ℕ) → elcr_of third ≡ n → Decided (word ≡ codes "route") → IsJudged (word ∷ first ∷ third ∷ [])
@@ -267,47 +316,26 @@ three_judged word first third (Some n) is (inl e) = inl (Route first n, (third, 
 three_judged word first third None is (inl e) = inr not_form
   where
     not_form : (form : Form) → ¬ IsForm form (word ∷ first ∷ third ∷ [])
-    not_form (Show i) e = cc
-    not_form (Audit i) e = cc
-    not_form (Canon i) e = cc
-    not_form (Build i) e = cc
+    not_form (Show i) is = let count = word_count (Show i) (word ∷ first ∷ third ∷ []) is in omega (arith, count)
+    not_form (Audit i) is = let count = word_count (Audit i) (word ∷ first ∷ third ∷ []) is in omega (arith, count)
+    not_form (Canon i) is = let count = word_count (Canon i) (word ∷ first ∷ third ∷ []) is in omega (arith, count)
+    not_form (Build i) is = let count = word_count (Build i) (word ∷ first ∷ third ∷ []) is in omega (arith, count)
     not_form (Route i n) (w, e, some) = let same : third ≡ w = cc in let both : None ≡ Some n = sym is ∙ ap elcr_of same ∙ some in cc
-three_judged word first third n is (inr no) = inr not_form
+three_judged word first third n is (inr other) = inr not_form
   where
     not_form : (form : Form) → ¬ IsForm form (word ∷ first ∷ third ∷ [])
-    not_form (Show i) e = cc
-    not_form (Audit i) e = cc
-    not_form (Canon i) e = cc
-    not_form (Build i) e = cc
-    not_form (Route i m) (w, e, some) = no cc
+    not_form (Show i) is = let count = word_count (Show i) (word ∷ first ∷ third ∷ []) is in omega (arith, count)
+    not_form (Audit i) is = let count = word_count (Audit i) (word ∷ first ∷ third ∷ []) is in omega (arith, count)
+    not_form (Canon i) is = let count = word_count (Canon i) (word ∷ first ∷ third ∷ []) is in omega (arith, count)
+    not_form (Build i) is = let count = word_count (Build i) (word ∷ first ∷ third ∷ []) is in omega (arith, count)
+    not_form (Route i m) (w, e, some) = other cc
 
 pub form_judged : (words : List (List ℕ)) → IsJudged words
-form_judged [] = inr none
-  where
-    none : (form : Form) → ¬ IsForm form []
-    none (Show i) e = cc
-    none (Audit i) e = cc
-    none (Canon i) e = cc
-    none (Build i) e = cc
-    none (Route i n) (w, e, is) = cc
-form_judged (x ∷ []) = inr none
-  where
-    none : (form : Form) → ¬ IsForm form (x ∷ [])
-    none (Show i) e = cc
-    none (Audit i) e = cc
-    none (Canon i) e = cc
-    none (Build i) e = cc
-    none (Route i n) (w, e, is) = cc
+form_judged [] = inr (λ form is. let count = word_count form [] is in let some = few_or_three form in omega (arith, count, some.0))
+form_judged (x ∷ []) = inr (λ form is. let count = word_count form (x ∷ []) is in let some = few_or_three form in omega (arith, count, some.0))
 form_judged (x ∷ y ∷ []) = two_judged x y (decided-list x (codes "show")) (decided-list x (codes "audit")) (decided-list x (codes "canon")) (decided-list x (codes "build"))
 form_judged (x ∷ y ∷ z ∷ []) = three_judged x y z (elcr_of z) refl (decided-list x (codes "route"))
-form_judged (x ∷ y ∷ z ∷ w ∷ ws) = inr none
-  where
-    none : (form : Form) → ¬ IsForm form (x ∷ y ∷ z ∷ w ∷ ws)
-    none (Show i) e = cc
-    none (Audit i) e = cc
-    none (Canon i) e = cc
-    none (Build i) e = cc
-    none (Route i n) (v, e, is) = cc
+form_judged (x ∷ y ∷ z ∷ w ∷ ws) = inr (λ form is. let count = word_count form (x ∷ y ∷ z ∷ w ∷ ws) is in let some = few_or_three form in omega (arith, count, some.1))
 
 pub still_judged : (form : Form) → Decided (IsStill form)
 still_judged form = inl tt
