@@ -1,5 +1,5 @@
 -- The size of a block is bounded by that of its listing.
-use Rattle.std.proofs.Common.{◌≡◌, ℕ, ◌+◌, ◌*◌, ◌%◌, ◌^◌, ◌<◌, ◌≤◌, List, [], ◌∷◌, ◌++◌, length, ap, arith, length-append}
+use Rattle.std.proofs.Common.{ℕ, ◌+◌, ◌*◌, ◌^◌, ◌<◌, ◌≤◌, List, [], ◌∷◌, ◌++◌, length, ap, arith, length-append}
 use Rattle.std.specs.List.{flat_map, sum_by, AllByRecursion}
 use Rattle.std.proofs.lemmas.List.Sums.{sum_by-cons}
 use Rattle.mpt_spec.specs.declared.pointer.Pointer.{Pointer}
@@ -12,9 +12,9 @@ use Rattle.mpt_spec.specs.declared.tables.Body.TheVariants as body
 use Rattle.mpt_spec.specs.declared.tables.Tables.{Tables}
 use Rattle.mpt_spec.specs.Entries.{base_length}
 use Rattle.mpt_spec.specs.Extended.{ext_length}
-use Rattle.mpt_spec.specs.Canonical.{block_size, IsLawfulExt, IsWellFormedBody, HasBlockPlace, FitsInImage}
+use Rattle.mpt_spec.specs.Canonical.{block_size, IsLawfulExt}
 use Rattle.mpt_listing.specs.Listing.{pointer_line, header_line, base_line, ext_line, body_lines}
-use Rattle.mpt_parse.specs.Listings.{title_line, end_line, HasRightBody, HasRightValues, IsListingOf}
+use Rattle.mpt_parse.specs.Listings.{title_line, end_line, HasRightBody, IsListingOf}
 use Rattle.mpt_parse.proofs.EntryLines.{base_some, ext_some, lines_short}
 
 base_low : (e : Base) → base_length e ≤ 20
