@@ -1,9 +1,7 @@
 -- The lines of the floating pointer and of the header are read exactly.
-use Rattle.std.proofs.Common.{◌≡◌, ℕ, ◌^◌, ◌<◌, ◌≤◌, Bool, true, List, [], ◌∷◌, slice_index, refl, arith}
+use Rattle.std.proofs.Common.{◌≡◌, ℕ, ◌^◌, ◌<◌, ◌≤◌, Bool, true, slice_index, refl, arith}
 use Rattle.std.specs.Prelude.{◌≢◌, codes, ◌==◌, nat_le, ◌&&◌, not}
 use Rattle.std.proofs.lemmas.Bool.Decides.{nat_tests}
-use Rattle.mpt_spec.specs.Values.{IsPointerValue}
-use Rattle.mpt_listing.specs.Listing.{hex, hex_bytes, quoted, line}
 use Rattle.mpt_line.specs.Lines.{IsRightPointer, pointer_text, IsRightHeader, header_text}
 use Rattle.mpt_line.specs.Forms.{pointer_in, header_in, is_right_pointer, is_right_header}
 use Rattle.mpt_line.proofs.Exact.{IsExact, both-exact, ended-exact, seen_as-exact, checked-exact, value-exact}

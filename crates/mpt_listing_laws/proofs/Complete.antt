@@ -3,8 +3,6 @@ use Rattle.std.proofs.Common.{◌≡◌, ℕ, zero, suc, ◌+◌, ◌<◌, ◌�
 use Rattle.std.specs.Prelude.{◌≢◌}
 use Rattle.std.specs.List.{flat_map}
 use Rattle.mpt_spec.specs.declared.pointer.Pointer.{Pointer}
-use Rattle.mpt_spec.specs.declared.entry.Base.{Base}
-use Rattle.mpt_spec.specs.declared.entry.Ext.{Ext}
 use Rattle.mpt_spec.specs.declared.tables.Table.{Table}
 use Rattle.mpt_spec.specs.declared.tables.Body.{Body}
 use Rattle.mpt_spec.specs.declared.tables.Body.TheVariants as body
@@ -14,7 +12,7 @@ use Rattle.mpt_spec.specs.Values.{IsBaseValue, IsBodyValue}
 use Rattle.mpt_listing.specs.Listing.{base_line, ext_line}
 use Rattle.mpt_line.specs.declared.heads.HeaderLine.{HeaderLine}
 use Rattle.mpt_line.specs.declared.heads.PointerLine.{PointerLine}
-use Rattle.mpt_line.specs.Lines.{IsRightExt, IsRightPointer, pointer_text, IsRightHeader, header_text, table_with, BeginsWith, BeginsWithNone}
+use Rattle.mpt_line.specs.Lines.{IsRightExt, IsRightPointer, pointer_text, IsRightHeader, header_text, table_with, BeginsWith}
 use Rattle.mpt_line.proofs.CallerLemmas.{HasFirstLine, base_line-first, ext_line-first, pointer_text-first, header_text-first}
 use Rattle.mpt_parse.specs.declared.fault.LineWhy.{LineWhy}
 use Rattle.mpt_parse.specs.declared.fault.LineWhy.TheVariants as why

@@ -1,5 +1,5 @@
--- Fitting of tables with right values, and the size of a block whose listing is short.
-use Rattle.std.proofs.Common.{◌≡◌, ℕ, ◌+◌, ◌*◌, ◌%◌, ◌^◌, ◌<◌, ◌≤◌, List, [], ◌∷◌, ◌++◌, length, ap, arith, length-append}
+-- The size of a block is bounded by that of its listing.
+use Rattle.std.proofs.Common.{ℕ, ◌+◌, ◌*◌, ◌^◌, ◌<◌, ◌≤◌, List, [], ◌∷◌, ◌++◌, length, ap, arith, length-append}
 use Rattle.std.specs.List.{flat_map, sum_by, AllByRecursion}
 use Rattle.std.proofs.lemmas.List.Sums.{sum_by-cons}
 use Rattle.mpt_spec.specs.declared.pointer.Pointer.{Pointer}
@@ -12,25 +12,10 @@ use Rattle.mpt_spec.specs.declared.tables.Body.TheVariants as body
 use Rattle.mpt_spec.specs.declared.tables.Tables.{Tables}
 use Rattle.mpt_spec.specs.Entries.{base_length}
 use Rattle.mpt_spec.specs.Extended.{ext_length}
-use Rattle.mpt_spec.specs.Canonical.{block_size, IsLawfulExt, IsWellFormedBody, HasBlockPlace, FitsInImage}
+use Rattle.mpt_spec.specs.Canonical.{block_size, IsLawfulExt}
 use Rattle.mpt_listing.specs.Listing.{pointer_line, header_line, base_line, ext_line, body_lines}
-use Rattle.mpt_parse.specs.Listings.{title_line, end_line, HasRightBody, HasRightValues, IsListingOf}
-use Rattle.mpt_parse.specs.Fitting.{HasShortParts}
+use Rattle.mpt_parse.specs.Listings.{title_line, end_line, HasRightBody, IsListingOf}
 use Rattle.mpt_parse.proofs.EntryLines.{base_some, ext_some, lines_short}
-
-well_formed_body : (b : Body) (p : Pointer) → HasRightBody b p → HasShortParts b → IsWellFormedBody b p
-well_formed_body (body.Default n) p h s = h
-well_formed_body (body.Listed t) p h s = (h.0, h.1, record { revision = h.2; lawful = h.3; base_fits = s.0; ext_fits = s.1 })
-
-short_parts : (b : Body) (p : Pointer) → IsWellFormedBody b p → HasShortParts b
-short_parts (body.Default n) p h = tt
-short_parts (body.Listed t) p h = (h.2.base_fits, h.2.ext_fits)
-
-pub fits_if : (t : Tables) → HasRightValues t → t.at % 16 ≡ 0 → 0x500 ≤ t.at → t.at ≤ 0xFFFF0 → HasShortParts t.body → HasBlockPlace t.body t.pointer.address t.at → FitsInImage t
-fits_if t h p low high s b = record { well_formed = record { revision = h.revision; body = well_formed_body t.body t.pointer h.body s; paragraph = p }; low = low; high = high; block = b }
-
-pub fits_short : (t : Tables) → FitsInImage t → HasShortParts t.body
-fits_short t h = short_parts t.body t.pointer h.well_formed.body
 
 base_low : (e : Base) → base_length e ≤ 20
 base_low (base.Processor e) = omega arith
@@ -45,9 +30,9 @@ ext_low (ext.Hierarchy e) h = omega arith
 ext_low (ext.Modifier e) h = omega arith
 ext_low (ext.Opaque e) h = omega (arith, h.2)
 
-sum_low : {E : Type 0} (f : E → ℕ) (k : ℕ) (V : E → Type 0) → ((e : E) → V e → f e ≤ 255) → (es : List E) → AllByRecursion V es → sum_by f es ≤ 255 * length es
-sum_low {E} f k V low [] v = omega arith
-sum_low {E} f k V low (e ∷ es) v = omega (arith, sum_by-cons f e es, low e v.0, sum_low f k V low es v.1)
+sum_low : {E : Type 0} (f : E → ℕ) (V : E → Type 0) → ((e : E) → V e → f e ≤ 255) → (es : List E) → AllByRecursion V es → sum_by f es ≤ 255 * length es
+sum_low {E} f V low [] v = omega arith
+sum_low {E} f V low (e ∷ es) v = omega (arith, sum_by-cons f e es, low e v.0, sum_low f V low es v.1)
 
 all_base : (es : List Base) → AllByRecursion (λ e. base_length e ≤ 20) es
 all_base [] = tt
@@ -61,14 +46,14 @@ block_low (body.Default n) p h = omega arith
 block_low (body.Listed t) p h =
     omega (
       arith,
-      sum_low base_length 0 (λ e. base_length e ≤ 20) low_255 t.base (all_base t.base),
-      sum_low ext_length 0 IsLawfulExt ext_low t.ext h.3,
+      sum_low base_length (λ e. base_length e ≤ 20) low_255 t.base (all_base t.base),
+      sum_low ext_length IsLawfulExt ext_low t.ext h.3,
       lines_short base_line base_some t.base,
       lines_short ext_line ext_some t.ext,
       length-append (header_line t ++ flat_map base_line t.base) (flat_map ext_line t.ext),
       length-append (header_line t) (flat_map base_line t.base),
     )
 
-pub block_small : (t : Tables) (text : List ℕ) → IsListingOf t text → length text < 2 ^ 32 → block_size t.body < 2 ^ 60
+pub block_small : (t : Tables) (text : List ℕ) → IsListingOf t text → length text < 2 ^ 32 → block_size t.body < 2 ^ 64
 block_small t text h s =
     omega (arith, block_low t.body t.pointer h.0.body, ap length h.1, length-append ((title_line ++ pointer_line t) ++ body_lines t.body) end_line, length-append (title_line ++ pointer_line t) (body_lines t.body))

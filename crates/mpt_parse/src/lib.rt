@@ -4,7 +4,6 @@
 
 mod entries;
 mod fault;
-mod fitting;
 mod parsing;
 
 pub use fault::{LineWhy, ListingFault};

@@ -13,9 +13,9 @@ ghost use Rattle.mpt_parse.specs.Languages.{IsUnfinished, IsFaultBehind, IsEnd, 
 
 use crate::entries::{read_base_lines, read_ext_lines};
 use crate::fault::{LineWhy, ListingFault};
-use crate::fitting::{block_bytes, fits};
 use mpt_line::{HeaderLine, read_header_line, read_pointer_line, read_text};
 use mpt_spec::{Base, Body, Ext, Pointer, Sequence, Table, Tables};
+use mpt_write::{block_bytes, fits};
 use std::alloc::Global;
 
 /// The tables of which the text is the listing, if they fit into an image of 1 MiB.

@@ -1,7 +1,0 @@
-use Rattle.std.proofs.Common.{◌≡◌, ◌+◌, take}
-use Rattle.std.specs.Prelude.{sum_by}
-use Rattle.mpt_spec.specs.Entries.{base_length}
-use Rattle.mpt_parse.proofs.fitting.base_size_of.Given as goal
-
-abbrev pub invariant-loop-entry : goal.invariant-loop-entry
-invariant-loop-entry l = l.size ≡ 44 + sum_by base_length (take l.entry-index l.fn.table.base)
