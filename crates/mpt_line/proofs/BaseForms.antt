@@ -8,7 +8,7 @@ use Rattle.mpt_spec.specs.declared.entry.IntEntry.{IntEntry}
 use Rattle.mpt_spec.specs.declared.entry.Base.{Base}
 use Rattle.mpt_spec.specs.declared.entry.Base.TheVariants as base
 use Rattle.mpt_listing.specs.Listing.{base_line, interrupt_line}
-use Rattle.mpt_laws.specs.Values.{IsProcessorValue, IsBusValue, IsIoApicValue, IsInterruptValue, IsBaseValue}
+use Rattle.mpt_spec.specs.Values.{IsProcessorValue, IsBusValue, IsIoApicValue, IsInterruptValue, IsBaseValue}
 use Rattle.mpt_line.specs.Reading.{text_in, field_in, seen_as}
 use Rattle.mpt_line.specs.Forms.{processor_in, bus_in, io_apic_in, interrupt_in, base_in}
 use Rattle.mpt_line.proofs.Exact.{IsExact, after-exact, both-exact, ended-exact, seen_as-exact, tagged-exact, value-exact, either-exact}

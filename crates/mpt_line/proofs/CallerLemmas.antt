@@ -4,7 +4,7 @@ use Rattle.std.proofs.Common.{◌≡◌, ℕ, List, ◌++◌, inl, inr, ◌⊎�
 use Rattle.std.specs.Prelude.{◌≢◌, Option, Some, None}
 use Rattle.mpt_spec.specs.declared.entry.Base.{Base}
 use Rattle.mpt_spec.specs.declared.entry.Ext.{Ext}
-use Rattle.mpt_laws.specs.Values.{IsBaseValue}
+use Rattle.mpt_spec.specs.Values.{IsBaseValue}
 use Rattle.mpt_listing.specs.Listing.{base_line, ext_line}
 use Rattle.mpt_line.specs.declared.heads.PointerLine.{PointerLine}
 use Rattle.mpt_line.specs.declared.heads.HeaderLine.{HeaderLine}

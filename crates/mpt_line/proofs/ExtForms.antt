@@ -9,7 +9,7 @@ use Rattle.mpt_spec.specs.declared.entry.Opaque.{Opaque}
 use Rattle.mpt_spec.specs.declared.entry.Ext.{Ext}
 use Rattle.mpt_spec.specs.declared.entry.Ext.TheVariants as ext
 use Rattle.mpt_listing.specs.Listing.{ext_line}
-use Rattle.mpt_laws.specs.Values.{IsSpaceValue, IsHierarchyValue, IsModifierValue}
+use Rattle.mpt_spec.specs.Values.{IsSpaceValue, IsHierarchyValue, IsModifierValue}
 use Rattle.mpt_line.specs.Reading.{text_in, field_in, seen_as}
 use Rattle.mpt_line.specs.Forms.{space_in, hierarchy_in, modifier_in, opaque_in, ext_in, is_right_opaque}
 use Rattle.mpt_line.specs.Lines.{IsRightExt}

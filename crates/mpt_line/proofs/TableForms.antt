@@ -2,7 +2,7 @@
 use Rattle.std.proofs.Common.{◌≡◌, ℕ, ◌^◌, ◌<◌, ◌≤◌, Bool, true, List, [], ◌∷◌, slice_index, refl, arith}
 use Rattle.std.specs.Prelude.{◌≢◌, codes, ◌==◌, nat_le, ◌&&◌, not}
 use Rattle.std.proofs.lemmas.Bool.Decides.{nat_tests}
-use Rattle.mpt_laws.specs.Values.{AreBytes, IsPointerValue}
+use Rattle.mpt_spec.specs.Values.{IsPointerValue}
 use Rattle.mpt_listing.specs.Listing.{hex, hex_bytes, quoted, line}
 use Rattle.mpt_line.specs.Lines.{IsRightPointer, pointer_text, IsRightHeader, header_text}
 use Rattle.mpt_line.specs.Forms.{pointer_in, header_in, is_right_pointer, is_right_header}

@@ -4,14 +4,15 @@
 --     IsRightExt e                       the line of an extended entry is right
 --     BeginsWith line Right text a rest  the text begins with the line of a right value
 --     BeginsWithNone line Right text     it begins with the line of none
-use Rattle.std.specs.Prelude.{◌≡◌, ◌≢◌, ℕ, ◌^◌, ◌<◌, ◌≤◌, List, [], ◌++◌}
+use Rattle.std.specs.Prelude.{◌≡◌, ◌≢◌, ℕ, ◌^◌, ◌<◌, ◌≤◌, List, [], ◌++◌, length}
+use Rattle.mpt_base.specs.Bytes.{IsByteList}
 use Rattle.mpt_spec.specs.declared.entry.Base.{Base}
 use Rattle.mpt_spec.specs.declared.entry.Ext.{Ext}
 use Rattle.mpt_spec.specs.declared.tables.Table.{Table}
 use Rattle.mpt_spec.specs.declared.tables.Body.TheVariants as body
 use Rattle.mpt_spec.specs.Table.{default_number}
 use Rattle.mpt_spec.specs.Canonical.{IsLawfulExt}
-use Rattle.mpt_laws.specs.Values.{AreBytes, IsPointerValue, IsExtValue}
+use Rattle.mpt_spec.specs.Values.{IsPointerValue, IsExtValue}
 use Rattle.mpt_listing.specs.Listing.{pointer_line, header_line}
 use Rattle.mpt_line.specs.declared.heads.PointerLine.{PointerLine}
 use Rattle.mpt_line.specs.declared.heads.HeaderLine.{HeaderLine}
@@ -32,8 +33,8 @@ pointer_text v = pointer_line (record { at = v.at; pointer = v.pointer; body = b
 -- the fields of a header fit, and the revision is 4
 pub record IsRightHeader (h : HeaderLine) : Type 0 where
   pub revision : h.revision ≡ 4
-  pub oem : AreBytes h.oem 8
-  pub product : AreBytes h.product 12
+  pub oem : (length h.oem ≡ 8) × IsByteList h.oem
+  pub product : (length h.product ≡ 12) × IsByteList h.product
   pub oem_table : h.oem_table < 2 ^ 32
   pub oem_size : h.oem_size < 2 ^ 16
   pub local_address : h.local_address < 2 ^ 32

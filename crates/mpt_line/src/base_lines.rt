@@ -1,7 +1,7 @@
 //! The lines of base entries, each read from the left.
 
 ghost use Rattle.std.specs.Prelude.{◌≡◌, IfSome, IfNone};
-ghost use Rattle.mpt_laws.specs.Values.{IsBaseValue};
+ghost use Rattle.mpt_spec.specs.Values.{IsBaseValue};
 ghost use Rattle.mpt_listing.specs.Listing.{base_line};
 ghost use Rattle.mpt_line.specs.Reading.{Gives};
 ghost use Rattle.mpt_line.specs.Forms.{processor_in, bus_in, io_apic_in, interrupt_in, base_in};

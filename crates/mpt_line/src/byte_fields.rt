@@ -47,7 +47,11 @@ fn fill_quoted<'a>(bytes: &mut [u8], line: &'a [u8]) -> Option<&'a [u8]>
 
 /// Fills the bytes with those of two digits each behind a text.
 #[tactic(auto, unfolding(crate::specs::Reading::bytes_field_in))]
-pub(crate) fn read_bytes_field<'a>(bytes: &mut [u8], line: &'a [u8], text: &[u8]) -> Option<&'a [u8]>
+pub(crate) fn read_bytes_field<'a>(
+    bytes: &mut [u8],
+    line: &'a [u8],
+    text: &[u8],
+) -> Option<&'a [u8]>
     ensures { Gives (λ rest. (bytes.new, rest.now)) result (bytes_field_in text.now (length bytes.old) line.now) }
 {
     let rest = read_part(line, text)?;
@@ -56,7 +60,11 @@ pub(crate) fn read_bytes_field<'a>(bytes: &mut [u8], line: &'a [u8], text: &[u8]
 
 /// Fills the bytes with those in quotes behind a text.
 #[tactic(auto, unfolding(crate::specs::Reading::quoted_field_in))]
-pub(crate) fn read_quoted_field<'a>(bytes: &mut [u8], line: &'a [u8], text: &[u8]) -> Option<&'a [u8]>
+pub(crate) fn read_quoted_field<'a>(
+    bytes: &mut [u8],
+    line: &'a [u8],
+    text: &[u8],
+) -> Option<&'a [u8]>
     ensures { Gives (λ rest. (bytes.new, rest.now)) result (quoted_field_in text.now (length bytes.old) line.now) }
 {
     let rest = read_part(line, text)?;

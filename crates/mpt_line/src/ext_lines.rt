@@ -6,8 +6,8 @@ ghost use Rattle.mpt_line.specs.Reading.{Gives, rest_in, run_in};
 ghost use Rattle.mpt_line.specs.Forms.{space_in, hierarchy_in, modifier_in, opaque_in, ext_in};
 ghost use Rattle.mpt_line.specs.Lines.{IsRightExt, BeginsWith, BeginsWithNone};
 
-use crate::fields::{read_byte, read_u8_field, read_end, read_field, read_part, read_u32_field};
 use crate::byte_fields::read_bytes_field;
+use crate::fields::{read_byte, read_end, read_field, read_part, read_u8_field, read_u32_field};
 use mpt_spec::{Ext, Hierarchy, Modifier, Opaque, Sequence, Space};
 use std::alloc::{AllocError, Global};
 

@@ -10,7 +10,7 @@ use Rattle.mpt_spec.specs.declared.tables.Body.{Body}
 use Rattle.mpt_spec.specs.declared.tables.Body.TheVariants as body
 use Rattle.mpt_spec.specs.declared.tables.Tables.{Tables}
 use Rattle.mpt_spec.specs.Table.{default_number}
-use Rattle.mpt_laws.specs.Values.{IsBaseValue, IsBodyValue}
+use Rattle.mpt_spec.specs.Values.{IsBaseValue, IsBodyValue}
 use Rattle.mpt_listing.specs.Listing.{base_line, ext_line}
 use Rattle.mpt_line.specs.declared.heads.HeaderLine.{HeaderLine}
 use Rattle.mpt_line.specs.declared.heads.PointerLine.{PointerLine}

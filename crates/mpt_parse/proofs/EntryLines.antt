@@ -8,7 +8,7 @@ use Rattle.mpt_spec.specs.declared.entry.Base.{Base}
 use Rattle.mpt_spec.specs.declared.entry.Base.TheVariants as base
 use Rattle.mpt_spec.specs.declared.entry.Ext.{Ext}
 use Rattle.mpt_spec.specs.declared.entry.Ext.TheVariants as ext
-use Rattle.mpt_laws.specs.Values.{IsBaseValue}
+use Rattle.mpt_spec.specs.Values.{IsBaseValue}
 use Rattle.mpt_listing.specs.Listing.{line, base_line, ext_line}
 use Rattle.mpt_parse.specs.declared.fault.ListingFault.{ListingFault}
 use Rattle.mpt_parse.specs.Listings.{end_line}

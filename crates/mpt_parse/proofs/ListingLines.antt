@@ -6,7 +6,7 @@ use Rattle.mpt_spec.specs.declared.tables.Body.{Body}
 use Rattle.mpt_spec.specs.declared.tables.Body.TheVariants as body
 use Rattle.mpt_spec.specs.declared.tables.Tables.{Tables}
 use Rattle.mpt_spec.specs.Table.{default_number}
-use Rattle.mpt_laws.specs.Values.{IsBodyValue}
+use Rattle.mpt_spec.specs.Values.{IsBodyValue}
 use Rattle.mpt_listing.specs.Listing.{pointer_line, body_lines}
 use Rattle.mpt_parse.specs.declared.fault.ListingFault.{ListingFault}
 use Rattle.mpt_parse.specs.Listings.{title_line, end_line, lines_behind, HasRightBody, HasRightValues, IsListing, IsListingOf}

@@ -9,7 +9,7 @@ use Rattle.mpt_spec.specs.declared.tables.Table.{Table}
 use Rattle.mpt_spec.specs.declared.tables.Body.TheVariants as body
 use Rattle.mpt_spec.specs.Canonical.{IsLawfulExt}
 use Rattle.mpt_spec.specs.Table.{default_number}
-use Rattle.mpt_laws.specs.Values.{IsBaseValue, IsExtValue}
+use Rattle.mpt_spec.specs.Values.{IsBaseValue, IsExtValue}
 use Rattle.mpt_listing.specs.Listing.{header_line, base_line, ext_line}
 use Rattle.mpt_line.specs.declared.heads.HeaderLine.{HeaderLine}
 use Rattle.mpt_parse.specs.declared.fault.ListingFault.{ListingFault}
@@ -108,12 +108,11 @@ table_fault h bs es text rest middle end before f e p q k =
 -- a whole table
 pub table_whole : (h : HeaderLine) (bs : List Base) (es : List Ext) (text rest middle end : List ℕ) → BeginsWith header_text IsRightHeader text h rest → AreFirstLines base_line IsBaseValue bs rest middle → AreFirstLines ext_line IsRightExt es middle end → end ≡ end_line
     → IsRightTable (table_with h bs es) × (text ≡ behind_text (body.Listed (table_with h bs es)))
-table_whole h bs es text rest middle end e p q k =
-    (
-      right_table h bs es e.right p.values q.values,
-      e.whole ∙ ap (λ x. header_text h ++ x) (p.whole ∙ ap (λ x. flat_map base_line bs ++ x) (q.whole ∙ ap (λ x. flat_map ext_line es ++ x) k))
-          ∙ regroup (header_text h) (flat_map base_line bs) (flat_map ext_line es) end_line,
-    )
+table_whole h bs es text rest middle end e p q k = (
+  right_table h bs es e.right p.values q.values,
+  e.whole ∙ ap (λ x. header_text h ++ x) (p.whole ∙ ap (λ x. flat_map base_line bs ++ x) (q.whole ∙ ap (λ x. flat_map ext_line es ++ x) k))
+      ∙ regroup (header_text h) (flat_map base_line bs) (flat_map ext_line es) end_line,
+)
 
 -- where the floating pointer names a table, its lines are due
 module _ (p : Pointer) (number : default_number p ≡ 0) (address : p.address ≢ 0) where

@@ -7,7 +7,7 @@ use Rattle.mpt_spec.specs.declared.entry.Ext.{Ext}
 use Rattle.mpt_spec.specs.declared.tables.Body.{Body}
 use Rattle.mpt_spec.specs.declared.tables.Body.TheVariants as body
 use Rattle.mpt_spec.specs.declared.tables.Tables.{Tables}
-use Rattle.mpt_laws.specs.Values.{IsBaseValue, IsBodyValue}
+use Rattle.mpt_spec.specs.Values.{IsBaseValue, IsBodyValue}
 use Rattle.mpt_listing.specs.Listing.{pointer_line, header_line, base_line, ext_line, body_lines, listing_of}
 use Rattle.mpt_parse.specs.declared.fault.LineWhy.{LineWhy}
 use Rattle.mpt_parse.specs.declared.fault.LineWhy.TheVariants as why

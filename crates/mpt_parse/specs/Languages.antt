@@ -9,7 +9,7 @@ use Rattle.mpt_spec.specs.declared.tables.Body.{Body}
 use Rattle.mpt_spec.specs.declared.tables.Body.TheVariants as body
 use Rattle.mpt_spec.specs.declared.tables.Tables.{Tables}
 use Rattle.mpt_spec.specs.Canonical.{IsLawfulExt}
-use Rattle.mpt_laws.specs.Values.{IsBaseValue, IsTableValue, IsBodyValue}
+use Rattle.mpt_spec.specs.Values.{IsBaseValue, IsTableValue, IsBodyValue}
 use Rattle.mpt_listing.specs.Listing.{pointer_line, base_line, ext_line, body_lines}
 use Rattle.mpt_line.specs.Lines.{IsRightExt, BeginsWithNone}
 use Rattle.mpt_parse.specs.declared.fault.LineWhy.{LineWhy}

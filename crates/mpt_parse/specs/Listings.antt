@@ -16,7 +16,7 @@ use Rattle.mpt_spec.specs.declared.tables.Body.TheVariants as body
 use Rattle.mpt_spec.specs.declared.tables.Tables.{Tables}
 use Rattle.mpt_spec.specs.Table.{default_number}
 use Rattle.mpt_spec.specs.Canonical.{IsLawfulExt, block_size, FitsInImage}
-use Rattle.mpt_laws.specs.Values.{IsTablesValue}
+use Rattle.mpt_spec.specs.Values.{IsTablesValue}
 use Rattle.mpt_listing.specs.Listing.{line, pointer_line, header_line, base_line, ext_line, listing_of}
 use Rattle.mpt_parse.specs.declared.fault.LineWhy.{LineWhy}
 use Rattle.mpt_parse.specs.declared.fault.LineWhy.TheVariants as why

@@ -1,7 +1,7 @@
 //! The lines of entries, one after another.
 
 ghost use Rattle.std.specs.Prelude.{IfOk};
-ghost use Rattle.mpt_laws.specs.Values.{IsBaseValue};
+ghost use Rattle.mpt_spec.specs.Values.{IsBaseValue};
 ghost use Rattle.mpt_listing.specs.Listing.{base_line, ext_line};
 ghost use Rattle.mpt_line.specs.Lines.{IsRightExt};
 ghost use Rattle.mpt_parse.specs.Languages.{AreFirstLines};

@@ -5,7 +5,7 @@ ghost use Rattle.mpt_spec.specs.declared.tables.Body.TheVariants as body;
 ghost use Rattle.mpt_spec.specs.declared.tables.Tables.{Tables as TablesOf};
 ghost use Rattle.mpt_spec.specs.Table.{default_number};
 ghost use Rattle.mpt_spec.specs.Canonical.{FitsInImage, block_size};
-ghost use Rattle.mpt_laws.specs.Values.{IsBodyValue};
+ghost use Rattle.mpt_spec.specs.Values.{IsBodyValue};
 ghost use Rattle.mpt_line.specs.Lines.{table_with};
 ghost use Rattle.mpt_parse.specs.declared.fault.LineWhy.{LineWhy as WhyOf};
 ghost use Rattle.mpt_parse.specs.Listings.{end_line, HasRightBody, IsListing, IsListingOf, IsFirstBadLine, IsCauseOf, AnswersTables, AnswersUnfit, AnswersLine};

@@ -1,5 +1,5 @@
 -- The base table with its checksum, and its header written in four pieces.
-use Rattle.std.proofs.Common.{◌≡◌, ℕ, ◌<◌, List, [], ◌∷◌, ◌++◌, length, set, refl, sym, ap, ◌∙◌, append_assoc, arith}
+use Rattle.std.proofs.Common.{◌≡◌, ℕ, List, [], ◌∷◌, ◌++◌, set, refl, ap, ◌∙◌, append_assoc}
 use Rattle.mpt_base.specs.Writing.{checksum_of}
 use Rattle.mpt_spec.specs.declared.tables.Table.{Table}
 use Rattle.mpt_spec.specs.Image.{base_table_bytes}

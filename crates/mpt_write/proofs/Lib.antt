@@ -2,3 +2,4 @@ pub mod OrderLemmas
 pub mod PieceLemmas
 pub mod SizeLemmas
 pub mod BlockLemmas
+pub mod OwnLemmas

@@ -1,7 +1,7 @@
 -- A stable sort by type gives the entries of each type in their order.
-use Rattle.std.proofs.Common.{◌≡◌, ℕ, suc, zero, ◌+◌, ◌<◌, ◌≤◌, Bool, true, false, List, [], ◌∷◌, ◌++◌, length, sym, refl, ap, ◌∙◌, arith, get_or, eqb, ltb, add-one}
+use Rattle.std.proofs.Common.{◌≡◌, ℕ, suc, zero, ◌<◌, ◌≤◌, Bool, true, false, List, [], ◌∷◌, ◌++◌, length, sym, refl, ap, ◌∙◌, arith, get_or, add-one}
 use Rattle.std.specs.Prelude.{◌==◌, filter}
-use Rattle.std.specs.List.{flat_map, IsAllAdjacentAnswer}
+use Rattle.std.specs.List.{IsAllAdjacentAnswer}
 use Rattle.std.specs.Prelude.{◌↔◌, IsTrue}
 use Rattle.std.specs.List.Sorted.{IsSortedByKey, IsStableByKey, IsNonDecreasingBy, ties}
 use Rattle.std.specs.Ordering.{nat_cmp, is_lt, is_le}
@@ -20,7 +20,6 @@ in_order (e ∷ f ∷ es) h = (h 0 1 e (omega arith) (omega arith), in_order (f 
 -- entries tie exactly where their types are equal
 pub tie_is : (m n : ℕ) → ties (λ (x y : ℕ). is_lt (nat_cmp x y)) m n ≡ (n == m)
 tie_is m n = grind (arith, nat_tests)
-
 
 of_one_type : (xs ys : List Base) → IsStableByKey base_type nat_cmp xs ys → (x : Base) → filter (λ e. base_type e == base_type x) ys ≡ filter (λ e. base_type e == base_type x) xs
 of_one_type xs ys h x =

@@ -1,13 +1,15 @@
 //! The block of tables: a configuration table, header, base entries and extended entries, with both
 //! checksums (MultiProcessor Specification 1.4, sections 4.2 to 4.4).
 
-ghost use Rattle.std.specs.Prelude.{◌≡◌, ◌+◌, ◌≤◌, ◌++◌, length, sum_by, IfOk, OnOk};
+ghost use Rattle.std.specs.Prelude.{◌≡◌, ℕ, List, ◌+◌, ◌≤◌, ◌++◌, length, sum_by, IfOk, OnOk};
 ghost use Rattle.std.specs.List.{AllByRecursion, flat_map};
+ghost use Rattle.mpt_base.specs.Bytes.{part, IsByteList};
 ghost use Rattle.mpt_base.specs.Writing.{checksum_of};
 ghost use Rattle.mpt_spec.specs.Canonical.{IsLawfulExt, IsWellFormedTable, IsWellFormed, base_size, ext_size, block_size};
 ghost use Rattle.mpt_spec.specs.Entries.{base_length};
 ghost use Rattle.mpt_spec.specs.Extended.{ext_length};
 ghost use Rattle.mpt_spec.specs.Image.{base_bytes, ext_bytes, base_table_bytes, table_bytes, body_bytes};
+ghost use Rattle.mpt_spec.specs.Table.{Describes};
 
 use crate::header::{CHECKSUM_AT, push_header};
 use crate::sizes::base_size;
@@ -50,7 +52,13 @@ fn open_base_table(alloc: Global, table: &Table, ext_part: &[u8]) -> Result<Vec<
     let base_length = base_size(table) as u16;
     let ext_length = ext_part.len() as u16;
     let mut out = Vec::new(alloc);
-    push_header(&mut out, table, base_length, ext_length, checksum8(ext_part))?;
+    push_header(
+        &mut out,
+        table,
+        base_length,
+        ext_length,
+        checksum8(ext_part),
+    )?;
     push_bases(&mut out, table.base.as_slice())?;
     Ok(out)
 }
@@ -78,9 +86,8 @@ fn table_bytes(alloc: Global, table: &Table) -> Result<Vec<u8>, NoMemory>
     Ok(bytes)
 }
 
-/// The bytes of the block: header, base entries and extended entries with both checksums, and none for
-/// a default configuration. The tables are well formed. It fails only where memory runs out.
-pub fn write_block(alloc: Global, tables: &Tables) -> Result<Vec<u8>, NoMemory>
+// the bytes of a body
+fn body_bytes(alloc: Global, tables: &Tables) -> Result<Vec<u8>, NoMemory>
     requires well_formed { IsWellFormed tables.now }
     ensures bytes { IfOk result (λ block. block.items ≡ body_bytes tables.now.body) }
     ensures size { IfOk result (λ block. length block.items ≡ block_size tables.now.body) }
@@ -89,4 +96,18 @@ pub fn write_block(alloc: Global, tables: &Tables) -> Result<Vec<u8>, NoMemory>
         Body::Default(_) => Ok(Vec::new(alloc)),
         Body::Listed(table) => table_bytes(alloc, table),
     }
+}
+
+/// The bytes of the block: header, base entries and extended entries with both checksums, and none for
+/// a default configuration. They are those of every image that describes the tables, at the address in
+/// its floating pointer. The tables are well formed. It fails only where memory runs out.
+pub fn write_block(alloc: Global, tables: &Tables) -> Result<Vec<u8>, NoMemory>
+    requires well_formed { IsWellFormed tables.now }
+    ensures bytes { IfOk result (λ block. block.items ≡ body_bytes tables.now.body) }
+    ensures size { IfOk result (λ block. length block.items ≡ block_size tables.now.body) }
+    ensures own { (image : List ℕ) → IsByteList image → Describes image tables.now
+        → IfOk result (λ block. part image tables.now.pointer.address (length block.items) ≡ block.items) }
+{
+    let block = body_bytes(alloc, tables)?;
+    Ok(block)
 }

@@ -87,7 +87,9 @@ fn has_block_place(tables: &Tables) -> bool
         Body::Default(_) => true,
         Body::Listed(_) => {
             let end = start + block_bytes(tables);
-            LOW <= start && end <= IMAGE_SIZE && (end <= tables.at || tables.at + POINTER_SIZE <= start)
+            LOW <= start
+                && end <= IMAGE_SIZE
+                && (end <= tables.at || tables.at + POINTER_SIZE <= start)
         }
     }
 }
@@ -98,8 +100,5 @@ fn has_block_place(tables: &Tables) -> bool
 pub fn fits(tables: &Tables) -> bool
     ensures { IsTrue result ↔ FitsInImage tables.now }
 {
-    well_formed(tables)
-        && LOW <= tables.at
-        && tables.at <= LAST_PLACE
-        && has_block_place(tables)
+    well_formed(tables) && LOW <= tables.at && tables.at <= LAST_PLACE && has_block_place(tables)
 }

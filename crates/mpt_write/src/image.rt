@@ -6,8 +6,10 @@ ghost use Rattle.std.specs.Int.{to_le_bytes, w16};
 ghost use Rattle.mpt_base.specs.Writing.{overlay};
 ghost use Rattle.mpt_spec.specs.Canonical.{FitsInImage, block_size};
 ghost use Rattle.mpt_spec.specs.Image.{pointer_bytes, body_bytes, image_of};
+ghost use Rattle.mpt_spec.specs.Table.{Describes};
 
 use crate::block::write_block;
+use crate::values::tables_value;
 use mpt_base::{NoMemory, put_bytes, put_u16};
 use mpt_pointer::write_pointer;
 use mpt_spec::{Body, Tables};
@@ -56,7 +58,12 @@ fn put_all(image: &mut [u8], tables: &Tables, block: &[u8])
 }
 
 // an image of this size, all zero but for these
-fn image_with(alloc: Global, size: usize, tables: &Tables, block: &[u8]) -> Result<Vec<u8>, NoMemory>
+fn image_with(
+    alloc: Global,
+    size: usize,
+    tables: &Tables,
+    block: &[u8],
+) -> Result<Vec<u8>, NoMemory>
     requires fits { FitsInImage tables.now }
     requires block { block.now ≡ body_bytes tables.now.body }
     requires block_size { length block.now ≡ block_size tables.now.body }
@@ -68,11 +75,16 @@ fn image_with(alloc: Global, size: usize, tables: &Tables, block: &[u8]) -> Resu
     Ok(image)
 }
 
-/// The image of 1 MiB that is written for tables that fit. It fails only where memory runs out.
+/// The image of 1 MiB that is written for tables that fit. It describes them: read again it gives the
+/// same tables. It fails only where memory runs out.
 pub fn write_image(alloc: Global, tables: &Tables) -> Result<Vec<u8>, NoMemory>
     requires fits { FitsInImage tables.now }
-    ensures { IfOk result (λ image. image.items ≡ image_of tables.now) }
+    ensures bytes { IfOk result (λ image. image.items ≡ image_of tables.now) }
+    ensures size { IfOk result (λ image. length image.items ≡ 0x100000) }
+    ensures describes { IfOk result (λ image. Describes image.items tables.now) }
 {
+    tables_value(tables);
     let block = write_block(alloc, tables)?;
-    image_with(alloc, IMAGE_SIZE, tables, block.as_slice())
+    let image = image_with(alloc, IMAGE_SIZE, tables, block.as_slice())?;
+    Ok(image)
 }

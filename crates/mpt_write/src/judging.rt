@@ -35,9 +35,17 @@ fn is_canonical_table(table: &Table) -> bool
     ensures { IsTrue result ↔ IsCanonicalBody (body.Listed table.now) }
 {
     table.reserved == 0
-        && table.base.as_slice().iter().all(|entry| has_clear_bits(entry))
+        && table
+            .base
+            .as_slice()
+            .iter()
+            .all(|entry| has_clear_bits(entry))
         && is_in_order(table.base.as_slice())
-        && table.ext.as_slice().iter().all(|entry| has_clear_ext_bits(entry))
+        && table
+            .ext
+            .as_slice()
+            .iter()
+            .all(|entry| has_clear_ext_bits(entry))
 }
 
 fn is_canonical_body(body: &Body) -> bool

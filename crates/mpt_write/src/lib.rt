@@ -12,6 +12,7 @@ mod image;
 mod judging;
 mod order;
 mod sizes;
+mod values;
 
 pub use block::write_block;
 pub use canonical::canon;

@@ -11,16 +11,23 @@ use Rattle.mpt_parse.specs.declared.fault.LineWhy.{LineWhy}
 use Rattle.mpt_parse.specs.Listings.{IsListing, IsListingOf, IsFirstBadLine}
 use Rattle.mpt_rules.specs.declared.rule.Finding.{Finding}
 use Rattle.mpt_table.proofs.ToldLemmas.{IfTold-map}
-use Rattle.mptab_calls.specs.Command.{IsReadyFor}
 use Rattle.mpt_base.specs.declared.fault.Reason.{Reason}
 use Rattle.mpt_table.specs.Windows.{IfTold}
-use Rattle.mptab_calls.specs.Texts.{fault_line, bad_line_line, unfit_line}
 use Rattle.mptab_calls.specs.declared.ending.Ending.{Ending}
-use Rattle.mptab_calls.specs.declared.ending.Ending.TheVariants.{Absent, TooLarge, Unread, NoPointer, Fault, BadLine, Unfit, NoMemory}
+use Rattle.mptab_calls.specs.declared.ending.Ending.TheVariants.{Absent, TooLarge, Unread, Refused, NoMemory}
 use Rattle.mptab_calls.specs.Forms.{Form, Show, Audit, Canon, Build, Route, Named, Image, Listing, source_of, files_of, name_of, limit_of, IsRead}
-use Rattle.mptab_calls.specs.Commands.{status_of, GivesTables, IsUnderstood, IsText, IsRefused, IsAnswerTo}
+use Rattle.mptab_calls.specs.Commands.{status_of, GivesTables, IsUnderstood, IsText, IsRefused, IsAnswerTo, IsReadyFor, no_pointer_line, fault_line, bad_line_line, unfit_line}
 use Rattle.mptab_calls.specs.Walk.{Outside, IsDueOf, AsksOf, most_of}
-use Rattle.mptab_calls.specs.Ending.{ending_status, ending_text, IsEnding, shelves}
+use Rattle.mptab_calls.specs.Ending.{ending_status, ending_text, IsEnding, Shelves, shelves}
+use Rattle.mptab_calls.specs.declared.answer.Answer.{Answer}
+use Rattle.mpt_base.specs.declared.outside.NoMemory.{NoMemory as NoMemoryUnit}
+
+-- no refusal has the status of an absent file
+refused_not_absent : (told : Option Files) (file : Named) (status : ℕ) (text : List ℕ) → IsRefused told file status text → status ≡ 3 → ⊥
+refused_not_absent told (Image name) status text (inl h) three = omega (arith, three, h.0)
+refused_not_absent told (Image name) status text (inr h) three = omega (arith, three, h.0)
+refused_not_absent told (Listing name) status text (inl h) three = omega (arith, three, h.0)
+refused_not_absent told (Listing name) status text (inr h) three = omega (arith, three, h.0)
 
 -- where the walk ends at the file that gives the form its tables, that is due
 ending_due : (told : Option Files) (before after : Outside) (form : Form) (e : Ending) → IsEnding told (shelves before.misses after.misses before.faults after.faults) (source_of form) e
@@ -29,10 +36,7 @@ ending_due told before after form Absent h = inl (inl (source_of form, inl refl,
 ending_due told before after form Unread h = inr (inl (refl, h, source_of form, inl refl, refl))
 ending_due told before after form NoMemory h = inr (inr (refl, h.1, h.0, refl))
 ending_due told before after form (TooLarge size) h = inl (inl (source_of form, inl refl, inr (inl (refl, size, h.0, refl))), λ three. absurd (omega (arith, three)), h.1)
-ending_due told before after form NoPointer h = inl (inl (source_of form, inl refl, inr (inr h.0)), λ three. absurd (omega (arith, three)), h.1)
-ending_due told before after form (Fault f) h = inl (inl (source_of form, inl refl, inr (inr h.0)), λ three. absurd (omega (arith, three)), h.1)
-ending_due told before after form (BadLine n why) h = inl (inl (source_of form, inl refl, inr (inr h.0)), λ three. absurd (omega (arith, three)), h.1)
-ending_due told before after form (Unfit size) h = inl (inl (source_of form, inl refl, inr (inr h.0)), λ three. absurd (omega (arith, three)), h.1)
+ending_due told before after form (Refused answer) h = inl (inl (source_of form, inl refl, inr (inr h.0)), λ three. absurd (refused_not_absent told (source_of form) answer.status answer.text.items h.0 three), h.1)
 
 pub IsEnding-due : (told : Option Files) (before after : Outside) (form : Form) (file : Named) (name : List ℕ) (e : Ending) → file ≡ source_of form → name ≡ name_of file → IsEnding told (shelves before.misses after.misses before.faults after.faults) file e
     → IsDueOf told before after form (ending_status e) (ending_text name e)
@@ -110,10 +114,21 @@ IsRead-there (Some files) file size is within = held (files (name_of file)) is
     held None e = absurd cc
     held (Some bytes) e = let same : size ≡ length bytes = cc in (omega (arith, same, within), tt)
 
+-- a refusal with this status and line, or want of memory for it
+pub IsEnding-refused : (told : Option Files) (s : Shelves) (file : Named) (answer : Result Answer NoMemoryUnit) (e : Ending) (status : ℕ) (text : List ℕ) → IsRefused told file status text → IsRead told file (λ bytes. Unit {0}) → s.faults_after ≡ s.faults
+    → IfOk answer (λ a. (a.status ≡ status) × (a.text.items ≡ text)) → IfOk answer (λ a. e ≡ Refused a) → IfErr answer (λ m. e ≡ NoMemory) → IsEnding told s file e
+IsEnding-refused told s file (Ok a) e status text refused there kept is ok err =
+    subst (IsEnding told s file) (sym ok) (subst (λ (t : List ℕ). IsRefused told file a.status t) (sym is.1) (subst (λ (n : ℕ). IsRefused told file n text) (sym is.0) refused), kept)
+IsEnding-refused told s file (Err m) e status text refused there kept is ok err = subst (IsEnding told s file) (sym err) (there, kept)
+
 -- an image with a first fault is refused for it
 pub IsRefused-fault : (told : Option Files) (name : List ℕ) (size at : ℕ) (why : Reason) → IsSizeTold told name (Some size) → size ≤ limit_of (Image name) → at < size → IfTold told name (λ image. IsFirstFault image at why) → IsRefused told (Image name) 7 (fault_line at why)
 IsRefused-fault told name size at why is within inside first =
     inr (refl, at, why, omega (arith, inside, within), IsRead-told told (Image name) size (λ image. IsFirstFault image at why) is within first, refl)
+
+-- and one without a floating pointer for that
+pub IsRefused-none : (told : Option Files) (name : List ℕ) (size : ℕ) → IsSizeTold told name (Some size) → size ≤ limit_of (Image name) → IfTold told name HasNoPointer → IsRefused told (Image name) 6 no_pointer_line
+IsRefused-none told name size is within none = inl (refl, IsRead-told told (Image name) size HasNoPointer is within none, refl)
 
 -- ---- a listing
 

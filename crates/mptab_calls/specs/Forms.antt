@@ -7,6 +7,10 @@
 use Rattle.std.specs.Prelude.{◌≡◌, ◌≤◌, ℕ, List, [], ◌∷◌, length, codes, ⊤, Option, Some, IfSome, IsSomeAnd}
 use Rattle.mpt_base.specs.Outside.{Files}
 use Rattle.mpt_answers.specs.Elcr.{elcr_of}
+use Rattle.mptab_calls.specs.declared.words.Command.{Command}
+use Rattle.mptab_calls.specs.declared.words.Command.TheVariants as command
+use Rattle.mptab_calls.specs.declared.words.Source.{Source}
+use Rattle.mptab_calls.specs.declared.words.Source.TheVariants as source
 
 -- a form, with the names of its files
 pub data Form : Type 0 where
@@ -66,3 +70,16 @@ most_asked (Listing name) size = size
 -- where the files are told, the file is there, within its limit, and P holds of its bytes
 abbrev pub IsRead : Option Files → Named → (List ℕ → Type 0) → Type 0
 IsRead told file P = IfSome told (λ files. IsSomeAnd (files (name_of file)) (λ bytes. (length bytes ≤ limit_of file) × P bytes))
+
+-- ---- the same as code says it; private functions cite this
+
+abbrev pub form_of : Command → Form
+form_of (command.Show image) = Show image.now
+form_of (command.Audit image) = Audit image.now
+form_of (command.Canon image) = Canon image.now
+form_of (command.Build listing) = Build listing.now
+form_of (command.Route image elcr) = Route image.now elcr
+
+abbrev pub named_of : Source → Named
+named_of (source.Image name) = Image name.now
+named_of (source.Listing name) = Listing name.now

@@ -1,18 +1,17 @@
 //! What the tables give each form: a status and a text.
 
 ghost use Rattle.std.specs.Prelude.{◌≡◌, ◌<◌, ◌^◌, [], IfOk};
-ghost use Rattle.mpt_spec.specs.Canonical.{IsWellFormed, FitsInImage, block_size};
-ghost use Rattle.mptab_calls.specs.Texts.{unfit_line};
-ghost use Rattle.mptab_calls.specs.Forms.{Show, Audit, Canon, Build, Route};
-ghost use Rattle.mptab_calls.specs.Commands.{IsAnswerTo};
-ghost use Rattle.mptab_calls.specs.Command.{form_of, IsReadyFor};
+ghost use Rattle.mpt_spec.specs.Canonical.{IsWellFormed, FitsInImage};
+ghost use Rattle.mptab_calls.specs.Forms.{Show, Audit, Canon, Build, Route, form_of};
+ghost use Rattle.mptab_calls.specs.Commands.{IsAnswerTo, IsReadyFor};
 
-use crate::status::{DONE, FINDINGS, NOT_LISTED};
+use crate::refusals::unfit;
+use crate::status::{DONE, FINDINGS};
 use crate::words::Command;
 use mpt_answers::{print_findings, print_routes};
 use mpt_audit::audit;
 use mpt_base::NoMemory;
-use mpt_listing::{Part, print, push_line};
+use mpt_listing::print;
 use mpt_route::{platform_of, routes};
 use mpt_table::Tables;
 use mpt_write::{block_bytes, canon, fits, write_image};
@@ -26,11 +25,7 @@ pub(crate) struct Answer {
 }
 
 /// Status and text that the tables give the form.
-pub(crate) fn answer_to(
-    alloc: Global,
-    command: Command,
-    tables: Tables,
-) -> Result<Answer, NoMemory>
+pub(crate) fn answer_to(alloc: Global, command: Command, tables: Tables) -> Result<Answer, NoMemory>
     requires well_formed { IsWellFormed tables }
     requires low { tables.at < 2 ^ 32 }
     requires ready { IsReadyFor (form_of command) tables }
@@ -74,28 +69,7 @@ fn canonical(alloc: Global, tables: Tables) -> Result<Answer, NoMemory>
         let text = write_image(alloc, &canonical)?;
         Ok(Answer { status: DONE, text })
     } else {
-        unfit(alloc, &tables)
-    }
-}
-
-// that the tables don't fit
-fn unfit(alloc: Global, tables: &Tables) -> Result<Answer, NoMemory>
-    requires { IsWellFormed tables.now }
-    ensures { IfOk result (λ answer. (answer.status ≡ 8) × (answer.text.items ≡ unfit_line (block_size tables.now.body))) }
-{
-    let mut text = Vec::new(alloc);
-    match push_line(
-        &mut text,
-        &[
-            Part::Text(b"mptab: does not fit "),
-            Part::Decimal(block_bytes(tables)),
-        ],
-    ) {
-        Ok(()) => Ok(Answer {
-            status: NOT_LISTED,
-            text,
-        }),
-        Err(_) => Err(NoMemory),
+        unfit(alloc, block_bytes(&tables))
     }
 }
 

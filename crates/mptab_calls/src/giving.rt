@@ -1,15 +1,14 @@
 //! What a form gives: the walk over its files, and the delivery of the answer.
 
 ghost use Rattle.std.specs.Prelude.{◌≡◌, ◌≤◌, ◌+◌, ℕ, List};
-ghost use Rattle.mptab_calls.specs.Forms.{files_of};
+ghost use Rattle.mptab_calls.specs.Forms.{files_of, form_of};
 ghost use Rattle.mptab_calls.specs.Walk.{IsDueOf, IsDelivered, AsksOf, outside};
-ghost use Rattle.mptab_calls.specs.Command.{form_of};
 
 use crate::answer::answer_to;
 use crate::delivery::deliver_text;
 use crate::ending::{Ending, refuse};
-use crate::source::{name_in, source_named, take};
-use crate::words::Command;
+use crate::source::take;
+use crate::words::{Command, name_in, source_named};
 use mpt_base::{NoMemory, Shelf, Sink};
 use std::alloc::Global;
 

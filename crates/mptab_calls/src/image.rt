@@ -8,7 +8,8 @@ ghost use Rattle.mptab_calls.specs.Commands.{GivesTables};
 ghost use Rattle.mptab_calls.specs.Walk.{most_of};
 ghost use Rattle.mptab_calls.specs.Ending.{IsEnding, shelves};
 
-use crate::ending::Ending;
+use crate::ending::{Ending, refused};
+use crate::refusals::{first_fault, no_pointer};
 use mpt_base::{Failed, Shelf};
 use mpt_table::{FileRefusal, Tables, read_from};
 use std::alloc::Global;
@@ -61,8 +62,8 @@ fn image_of_size<S: Shelf>(
 {
     match read_from(alloc, shelf, name, size) {
         Ok(tables) => Ok(tables),
-        Err(FileRefusal::NoPointer) => Err(Ending::NoPointer),
-        Err(FileRefusal::Fault(fault)) => Err(Ending::Fault(fault)),
+        Err(FileRefusal::NoPointer) => Err(refused(no_pointer(alloc))),
+        Err(FileRefusal::Fault(fault)) => Err(refused(first_fault(alloc, fault))),
         Err(FileRefusal::Read) => Err(Ending::Unread),
         Err(FileRefusal::NoMemory) => Err(Ending::NoMemory),
     }

@@ -10,6 +10,7 @@ mod file;
 mod giving;
 mod image;
 mod listing;
+mod refusals;
 mod source;
 mod status;
 mod words;

@@ -8,8 +8,9 @@ ghost use Rattle.mptab_calls.specs.Commands.{GivesTables};
 ghost use Rattle.mptab_calls.specs.Walk.{most_of};
 ghost use Rattle.mptab_calls.specs.Ending.{IsEnding, shelves};
 
-use crate::ending::Ending;
+use crate::ending::{Ending, refused};
 use crate::file::{FileFailure, read_whole};
+use crate::refusals::{bad_line, unfit};
 use mpt_base::{Failed, Shelf};
 use mpt_parse::{ListingFault, parse};
 use mpt_table::Tables;
@@ -68,8 +69,8 @@ fn listing_of_size<S: Shelf>(
     };
     match parse(alloc, bytes.as_slice()) {
         Ok(tables) => Ok(tables),
-        Err(ListingFault::Line { line, why }) => Err(Ending::BadLine(line, why)),
-        Err(ListingFault::DoesNotFit { bytes }) => Err(Ending::Unfit(bytes)),
+        Err(ListingFault::Line { line, why }) => Err(refused(bad_line(alloc, line, why))),
+        Err(ListingFault::DoesNotFit { bytes }) => Err(refused(unfit(alloc, bytes))),
         Err(ListingFault::NoMemory) => Err(Ending::NoMemory),
     }
 }

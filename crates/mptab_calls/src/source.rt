@@ -2,58 +2,21 @@
 
 ghost use Rattle.std.specs.Prelude.{◌≡◌, ◌≤◌, ◌<◌, ◌+◌, ◌^◌, IfOk, IfErr};
 ghost use Rattle.mpt_spec.specs.Canonical.{IsWellFormed};
-ghost use Rattle.mptab_calls.specs.Forms.{source_of, name_of};
+ghost use Rattle.mptab_calls.specs.Forms.{named_of};
 ghost use Rattle.mptab_calls.specs.Commands.{GivesTables};
 ghost use Rattle.mptab_calls.specs.Walk.{most_of};
 ghost use Rattle.mptab_calls.specs.Ending.{IsEnding, shelves};
-ghost use Rattle.mptab_calls.specs.Command.{form_of, named_of};
 
 use crate::ending::Ending;
 use crate::image::take_image;
 use crate::listing::take_listing;
-use crate::words::Command;
+use crate::words::Source;
 use mpt_base::Shelf;
 use mpt_table::Tables;
 use std::alloc::Global;
 
-/// A file by what it is to be, and its name.
-#[derive(Clone, Copy)]
-pub(crate) enum Source<'a> {
-    /// An image.
-    Image(&'a str),
-    /// A listing.
-    Listing(&'a str),
-}
-
-/// The file that gives the form its tables.
-pub(crate) fn source_named<'a>(command: Command<'a>) -> Source<'a>
-    ensures { named_of result ≡ source_of (form_of command.entry) }
-{
-    match command {
-        Command::Show(image)
-        | Command::Audit(image)
-        | Command::Canon(image)
-        | Command::Route(image, _) => Source::Image(image),
-        Command::Build(listing) => Source::Listing(listing),
-    }
-}
-
-/// The name of the file.
-pub(crate) fn name_in<'a>(source: Source<'a>) -> &'a str
-    ensures { result.now ≡ name_of (named_of source.entry) }
-{
-    match source {
-        Source::Image(name) => name,
-        Source::Listing(name) => name,
-    }
-}
-
 /// The tables that the file gives, or why the walk ends there.
-pub(crate) fn take<S: Shelf>(
-    alloc: Global,
-    source: Source,
-    shelf: &mut S,
-) -> Result<Tables, Ending>
+pub(crate) fn take<S: Shelf>(alloc: Global, source: Source, shelf: &mut S) -> Result<Tables, Ending>
     ensures files_stay { S.files shelf.new ≡ S.files shelf.old }
     ensures unfailed { IfOk result (λ t. S.faults shelf.new ≡ S.faults shelf.old) }
     ensures tables { IfOk result (λ t. GivesTables (S.files shelf.old) (named_of source.entry) t) }

@@ -1,9 +1,8 @@
 //! The words of a command line, and the form that they are.
 
-ghost use Rattle.std.specs.Prelude.{◌∷◌, [], MatchOption};
-ghost use Rattle.mptab_calls.specs.Forms.{IsForm, IsAny};
+ghost use Rattle.std.specs.Prelude.{◌≡◌, ◌∷◌, [], MatchOption};
+ghost use Rattle.mptab_calls.specs.Forms.{IsForm, IsAny, form_of, source_of, name_of, named_of};
 ghost use Rattle.mptab_calls.specs.Walk.{IsNoForm, texts_of};
-ghost use Rattle.mptab_calls.specs.Command.{form_of};
 
 use mpt_answers::read_elcr;
 
@@ -63,5 +62,37 @@ fn of_image_and_elcr<'a>(word: &str, name: &'a str, elcr: &str) -> Option<Comman
     match read_elcr(elcr) {
         Some(number) => Some(Command::Route(name, number)),
         None => None,
+    }
+}
+
+/// A file by what it is to be, and its name.
+#[derive(Clone, Copy)]
+pub(crate) enum Source<'a> {
+    /// An image.
+    Image(&'a str),
+    /// A listing.
+    Listing(&'a str),
+}
+
+/// The file that gives the form its tables.
+pub(crate) fn source_named<'a>(command: Command<'a>) -> Source<'a>
+    ensures { named_of result ≡ source_of (form_of command.entry) }
+{
+    match command {
+        Command::Show(image)
+        | Command::Audit(image)
+        | Command::Canon(image)
+        | Command::Route(image, _) => Source::Image(image),
+        Command::Build(listing) => Source::Listing(listing),
+    }
+}
+
+/// The name of the file.
+pub(crate) fn name_in<'a>(source: Source<'a>) -> &'a str
+    ensures { result.now ≡ name_of (named_of source.entry) }
+{
+    match source {
+        Source::Image(name) => name,
+        Source::Listing(name) => name,
     }
 }

@@ -4,7 +4,7 @@ ghost use Rattle.std.specs.Prelude.{◌≡◌, ◌≤◌, ℕ, List, length, Som
 ghost use Rattle.mpt_base.specs.Outside.{Files};
 ghost use Rattle.mpt_base.specs.declared.fault.Reason.{Reason};
 ghost use Rattle.mpt_spec.specs.Faults.{IsFirstFault};
-ghost use Rattle.mptab_calls.specs.Texts.{fault_line};
+ghost use Rattle.mptab_calls.specs.Commands.{fault_line};
 ghost use Rattle.mptab_calls.specs.Forms.{Form, IsForm, IsAny, IsStill, IsRead, Image, source_of};
 ghost use Rattle.mptab_calls.specs.Walk.{IsAnswer};
 ghost use Rattle.mptab_laws.specs.Laws.{AreBytesTold, HaveOneText};

@@ -1,4 +1,4 @@
-use Rattle.mpt_laws.specs.Values.{IsBaseValue}
+use Rattle.mpt_spec.specs.Values.{IsBaseValue}
 use Rattle.mpt_listing.specs.Listing.{base_line}
 use Rattle.mpt_parse.proofs.EntryLines.{more_lines, more_values, shorter, base_some}
 use Rattle.mpt_parse.proofs.entries.read_base_lines.Goals as goal

@@ -1,6 +1,6 @@
 use Rattle.std.proofs.Common.{◌≡◌, ◌++◌, length}
 use Rattle.std.specs.List.{flat_map, AllByRecursion}
-use Rattle.mpt_laws.specs.Values.{IsBaseValue}
+use Rattle.mpt_spec.specs.Values.{IsBaseValue}
 use Rattle.mpt_listing.specs.Listing.{base_line}
 use Rattle.mpt_parse.proofs.entries.read_base_lines.Given as goal
 

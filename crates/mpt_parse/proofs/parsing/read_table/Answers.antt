@@ -1,7 +1,7 @@
 use Rattle.std.proofs.Common.{◌≡◌, ℕ, ◌+◌, length, sym, subst, arith}
 use Rattle.mpt_spec.specs.declared.tables.Table.{Table}
 use Rattle.mpt_spec.specs.declared.tables.Body.TheVariants as body
-use Rattle.mpt_laws.specs.Values.{IsBaseValue}
+use Rattle.mpt_spec.specs.Values.{IsBaseValue}
 use Rattle.mpt_listing.specs.Listing.{base_line, ext_line}
 use Rattle.mpt_line.specs.Lines.{IsRightExt}
 use Rattle.mpt_parse.specs.Languages.{IsEnd, IsRightTable, IsFaultBehind, behind_text}

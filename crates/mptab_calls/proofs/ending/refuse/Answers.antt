@@ -6,11 +6,8 @@ returns-in-Absent g c = rw c.in-Absent.is (rw c.as_bytes.ensures.value at c.deli
 pub returns-in-Unread : goal.returns-in-Unread
 returns-in-Unread g c = rw c.in-Unread.is (rw c.as_bytes-in-Unread.ensures.value at c.deliver_line-in-Unread.ensures)
 
-pub returns-in-NoPointer : goal.returns-in-NoPointer
-returns-in-NoPointer g c = rw c.in-NoPointer.is c.deliver_line-in-NoPointer.ensures
-
-pub returns-in-Fault : goal.returns-in-Fault
-returns-in-Fault g c = rw c.in-Fault.is c.refuse_fault.ensures
+pub returns-in-Refused : goal.returns-in-Refused
+returns-in-Refused g c = rw c.in-Refused.is (rw c.as_slice.ensures.value at c.deliver_text.ensures)
 
 pub returns-in-NoMemory : goal.returns-in-NoMemory
 returns-in-NoMemory g c = rw c.in-NoMemory.is c.deliver_line-in-NoMemory.ensures

@@ -1,8 +1,8 @@
 use Rattle.mptab_calls.specs.declared.ending.Ending.TheVariants.{NoMemory}
 use Rattle.mptab_calls.specs.Walk.{outside}
 use Rattle.mptab_calls.specs.Ending.{ending_status, ending_text}
-use Rattle.mptab_calls.specs.Command.{form_of, named_of}
-use Rattle.mptab_calls.proofs.AnswerLemmas.{IsEnding-due, IsEnding-given, IsAnswerTo-due, AsksOf-source}
+use Rattle.mptab_calls.specs.Forms.{form_of, named_of}
+use Rattle.mptab_calls.proofs.AnswerLemmas.{IsEnding-due, IsEnding-given, IsAnswerTo-due, IsReadyFor-given, AsksOf-source}
 use Rattle.mptab_calls.proofs.giving.give.Goals as goal
 
 pub returns-in-Ok-answer_to-clause-due : goal.returns-in-Ok-answer_to-clause-due
@@ -43,3 +43,6 @@ returns-in-Err-clause-due g c =
 
 pub returns-in-Err-clause-asks : goal.returns-in-Err-clause-asks
 returns-in-Err-clause-asks g c = AsksOf-source (g.S.Shelf.files c.args.shelf.now) (form_of c.args.command) (named_of c.source_named-source.result) (g.S.Shelf.asked c.args.shelf.now) (g.S.Shelf.asked c.take.new.shelf) c.source_named-source.ensures c.take.ensures.asks
+
+pub answer_to-requires-clause-ready : goal.answer_to-requires-clause-ready
+answer_to-requires-clause-ready g c = IsReadyFor-given (g.S.Shelf.files c.args.shelf.now) (form_of c.args.command) (named_of c.source_named-source.result) c.in-Ok.tables c.source_named-source.ensures c.in-Ok.ensures.tables

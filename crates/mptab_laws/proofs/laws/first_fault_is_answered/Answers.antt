@@ -3,7 +3,7 @@ use Rattle.mpt_base.specs.Outside.{Files}
 use Rattle.mpt_base.specs.declared.fault.Reason.{Reason}
 use Rattle.mpt_spec.specs.Faults.{IsFirstFault}
 use Rattle.mpt_spec.proofs.FaultLemmas.{IsFirstFault-inside}
-use Rattle.mptab_calls.specs.Texts.{fault_line}
+use Rattle.mptab_calls.specs.Commands.{fault_line}
 use Rattle.mptab_calls.specs.Forms.{Form, Image, IsForm, IsStill, IsRead, source_of}
 use Rattle.mptab_calls.specs.Walk.{IsAnswer}
 use Rattle.mptab_laws.proofs.Rows.{IsRead-bytes}
