@@ -23,7 +23,7 @@ use Rattle.mpt_route.specs.declared.route.Answer.TheVariants as answer
 use Rattle.mpt_route.specs.Sense.{is_reserved, conforms, bus_kind_of}
 use Rattle.mpt_route.specs.Routes.{has_reason, reasons, is_other, is_some_other, is_some_same, low_on, taken_by, answer_unless, answer_after, routes_of, is_enabled, io_place_in, bus_kind_in}
 use Rattle.mpt_route.specs.Reasons.{asked_row, IsOnAskedPin, IsUnroutedBecause, place_of, IsAnswerTo, AreRoutesOf}
-use Rattle.mpt_route.proofs.PinLemmas.{has_answer_per_entry, follows_earlier, before, takes_pins_once}
+use Rattle.mpt_route.proofs.PinLemmas.{has_answer_per_entry, follows_earlier, takes_pins_once}
 
 -- what is found passes the test, and nothing before it does
 first_found : (f : Why → Bool) (ws : List Why) (w : Why) → find f ws ≡ Some w
