@@ -54,7 +54,7 @@ none_found f (x ∷ ws) k v h e = go (f x) refl k e h (λ j q r. none_found f ws
     go false q (suc k) e r again = again k e r
 
 -- a reason stands in the list at its place
-listed : (v : Why) → slice_get reasons (place_of v) ≡ Some v
+pub listed : (v : Why) → slice_get reasons (place_of v) ≡ Some v
 listed why.DestWide = refl
 listed why.UnknownBus = refl
 listed why.UnknownIo = refl

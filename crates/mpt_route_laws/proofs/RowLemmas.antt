@@ -145,7 +145,7 @@ is_row_of p elcr i e r at routed =
     row_says p elcr i e r place.0 k.0 place.1 k.1 (place_below p.ios e.dest place.0 place.1) (pin_below p elcr i e r at routed) (sym (is_row p elcr i e r at routed))
 
 -- an answer is that to an entry
-entry_at : (es : List IntEntry) (xs : List Answer) (j : ℕ) (a : Answer) → length xs ≡ length es → slice_get xs j ≡ Some a → (e : IntEntry) × (slice_get es j ≡ Some e)
+pub entry_at : (es : List IntEntry) (xs : List Answer) (j : ℕ) (a : Answer) → length xs ≡ length es → slice_get xs j ≡ Some a → (e : IntEntry) × (slice_get es j ≡ Some e)
 entry_at es [] j a q h = absurd (cc)
 entry_at [] (x ∷ xs) j a q h = absurd (omega arith)
 entry_at (e ∷ es) (x ∷ xs) zero a q h = (e, refl)
