@@ -128,8 +128,8 @@ fn level_irqs(name: [u8; 6], elcr: u16) -> u16 {
     }
 }
 
-// whether an answer is the row of an interrupt of a default configuration; entry 0 is the ExtINT
-fn is_row(answer: &Answer, at: usize, kind: u8, irq: u8, pin: u8, levels: u16) -> bool {
+// whether an answer is the row of an interrupt of a default configuration; entry 0 is an ExtINT
+fn is_row(answer: &Answer, entry: u32, kind: u8, irq: u8, pin: u8, levels: u16) -> bool {
     let level = levels >> (irq % 16) & 1 == 1;
     let (vector, low) = if kind == 0 {
         (
@@ -139,19 +139,15 @@ fn is_row(answer: &Answer, at: usize, kind: u8, irq: u8, pin: u8, levels: u16) -
     } else {
         (0, if level { 0x2700 } else { 0x700 })
     };
-    match *answer {
-        Answer::Routed(row) => {
-            row == Route {
-                io: 0,
-                pin,
-                vector,
-                low,
-                high: 0,
-                entry: row.entry,
-            } && row.entry as usize == at
-        }
-        Answer::Unrouted { .. } => false,
-    }
+    let expected = Route {
+        io: 0,
+        pin,
+        vector,
+        low,
+        high: 0,
+        entry,
+    };
+    *answer == Answer::Routed(expected)
 }
 
 fn are_rows(alloc: Global, number: u8, name: [u8; 6], elcr: u16) -> Option<bool> {
@@ -159,9 +155,9 @@ fn are_rows(alloc: Global, number: u8, name: [u8; 6], elcr: u16) -> Option<bool>
     let answers = routes(alloc, &p, elcr).ok()?;
     let levels = level_irqs(name, elcr);
     let ints = p.ints.as_slice();
-    let each = answers.as_slice().iter().enumerate().zip(ints.iter()).all(|(
-        (at, answer),
-        e,
+    let each = answers.as_slice().iter().zip(ints.iter()).zip(0..16u32).all(|(
+        (answer, e),
+        at,
     )| is_row(answer, at, e.kind, e.irq, e.pin, levels));
     Some(each && answers.len() == ints.len())
 }

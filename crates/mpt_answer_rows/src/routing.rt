@@ -112,73 +112,37 @@ fn each_reason_is_told_alone(rt: HostRuntime) {
 #[test]
 fn the_first_reason_is_told(rt: HostRuntime) {
     let alloc = rt.alloc();
-    let wide = [
-        entry(0, 5, 9, 1, 255, 4),
-        entry(0, 5, 1, 1, 255, 24),
-        entry(4, 5, 1, 1, 255, 4),
-        entry(0, 6, 1, 1, 255, 4),
-        entry(0, 0, 3, 1, 255, 4),
+    let rows = [
+        (entry(0, 5, 9, 1, 255, 4), Why::DestWide),
+        (entry(0, 5, 1, 1, 255, 24), Why::DestWide),
+        (entry(4, 5, 1, 1, 255, 4), Why::DestWide),
+        (entry(0, 6, 1, 1, 255, 4), Why::DestWide),
+        (entry(0, 0, 3, 1, 255, 4), Why::DestWide),
+        (entry(0, 5, 9, 1, 9, 4), Why::UnknownBus),
+        (entry(0, 5, 9, 1, 4, 24), Why::UnknownBus),
+        (entry(4, 5, 9, 1, 4, 4), Why::UnknownBus),
+        (entry(0, 6, 9, 1, 4, 4), Why::UnknownBus),
+        (entry(0, 0, 9, 1, 4, 4), Why::UnknownBus),
+        (entry(0, 7, 9, 1, 4, 3), Why::UnknownBus),
+        (entry(0, 5, 9, 1, 4, 3), Why::UnknownBus),
+        (entry(0, 5, 1, 1, 9, 24), Why::UnknownIo),
+        (entry(4, 5, 1, 1, 9, 4), Why::UnknownIo),
+        (entry(0, 6, 1, 1, 9, 4), Why::UnknownIo),
+        (entry(0, 0, 3, 1, 9, 4), Why::UnknownIo),
+        (entry(4, 5, 1, 1, 4, 24), Why::PinRange),
+        (entry(0, 6, 1, 1, 4, 24), Why::PinRange),
+        (entry(0, 0, 3, 1, 4, 255), Why::PinRange),
+        (entry(4, 6, 1, 1, 4, 4), Why::UnknownKind),
+        (entry(4, 0, 3, 1, 4, 4), Why::UnknownKind),
+        (entry(255, 5, 1, 1, 4, 3), Why::UnknownKind),
+        (entry(0, 2, 3, 1, 4, 4), Why::ReservedFlag),
+        (entry(0, 6, 1, 1, 4, 3), Why::ReservedFlag),
+        (entry(0, 4, 3, 1, 4, 3), Why::Conforms),
+        (entry(0, 12, 3, 1, 4, 3), Why::Conforms),
     ];
-    let unknown_bus = [
-        entry(0, 5, 9, 1, 9, 4),
-        entry(0, 5, 9, 1, 4, 24),
-        entry(4, 5, 9, 1, 4, 4),
-        entry(0, 6, 9, 1, 4, 4),
-        entry(0, 0, 9, 1, 4, 4),
-        entry(0, 7, 9, 1, 4, 3),
-        entry(0, 5, 9, 1, 4, 3),
-    ];
-    let unknown_io = [
-        entry(0, 5, 1, 1, 9, 24),
-        entry(4, 5, 1, 1, 9, 4),
-        entry(0, 6, 1, 1, 9, 4),
-        entry(0, 0, 3, 1, 9, 4),
-    ];
-    let range = [
-        entry(4, 5, 1, 1, 4, 24),
-        entry(0, 6, 1, 1, 4, 24),
-        entry(0, 0, 3, 1, 4, 255),
-    ];
-    let kind = [
-        entry(4, 6, 1, 1, 4, 4),
-        entry(4, 0, 3, 1, 4, 4),
-        entry(255, 5, 1, 1, 4, 3),
-    ];
-    let reserved = [entry(0, 2, 3, 1, 4, 4), entry(0, 6, 1, 1, 4, 3)];
-    let conforms = [entry(0, 4, 3, 1, 4, 3), entry(0, 12, 3, 1, 4, 3)];
-    assert!(rt;
-        wide.iter()
-            .all(|e| reason(alloc, *e) == Some(Why::DestWide))
-    );
-    assert!(rt;
-        unknown_bus
-            .iter()
-            .all(|e| reason(alloc, *e) == Some(Why::UnknownBus))
-    );
-    assert!(rt;
-        unknown_io
-            .iter()
-            .all(|e| reason(alloc, *e) == Some(Why::UnknownIo))
-    );
-    assert!(rt;
-        range
-            .iter()
-            .all(|e| reason(alloc, *e) == Some(Why::PinRange))
-    );
-    assert!(rt;
-        kind.iter()
-            .all(|e| reason(alloc, *e) == Some(Why::UnknownKind))
-    );
-    assert!(rt;
-        reserved
-            .iter()
-            .all(|e| reason(alloc, *e) == Some(Why::ReservedFlag))
-    );
-    assert!(rt;
-        conforms
-            .iter()
-            .all(|e| reason(alloc, *e) == Some(Why::Conforms))
-    );
+    for (row, why) in rows {
+        assert!(rt; reason(alloc, row) == Some(why));
+    }
 }
 
 // place, pin, vector and low word of the row of an entry, with the ELCR 0020h

@@ -110,14 +110,22 @@ pub(crate) fn default_tables(number: u8, features: [u8; 4]) -> Option<Tables>
     ensures { IfSome result (λ tables. IsWellFormed tables) }
 {
     let [second, third, fourth, fifth] = features;
-    if number == 0 || number > 7 {
-        return None;
-    }
-    Some(Tables {
+    judged(Tables {
         at: 0xF_0000,
         pointer: pointer([number, second, third, fourth, fifth]),
         body: Body::Default(number),
     })
+}
+
+// the tables, where they are well formed
+fn judged(tables: Tables) -> Option<Tables>
+    ensures { IfSome result (λ tables. IsWellFormed tables) }
+{
+    if well_formed(&tables) {
+        Some(tables)
+    } else {
+        None
+    }
 }
 
 /// Listed tables of these entries; `None` where memory runs out or the entries are too many.
@@ -150,14 +158,9 @@ pub(crate) fn with_entries(
         base: Sequence::new(base),
         ext: Sequence::new(exts(alloc, parts).ok()?),
     };
-    let tables = Tables {
+    judged(Tables {
         at: 0xF_0000,
         pointer: pointer([0, feature, 0, 0, 0]),
         body: Body::Listed(table),
-    };
-    if well_formed(&tables) {
-        Some(tables)
-    } else {
-        None
-    }
+    })
 }

@@ -5,7 +5,7 @@ use Rattle.std.specs.List.{Contains}
 use Rattle.std.proofs.lemmas.List.Elements.{Contains-append_cases, Contains-append_left, Contains-append_right}
 use Rattle.mpt_spec.specs.declared.tables.Tables.{Tables}
 use Rattle.mpt_rules.specs.declared.rule.Finding.{Finding}
-use Rattle.mpt_audit.specs.Findings.{Precedes, IsAscending, ListsInOrder, AreFindingsOf}
+use Rattle.mpt_audit.specs.Findings.{Precedes, IsAscending, AreFindingsOf}
 
 -- one finding precedes another, and none precedes itself
 follows : (f g h : Finding) → Precedes f g → Precedes g h → Precedes f h

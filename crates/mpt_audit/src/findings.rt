@@ -80,11 +80,12 @@ fn audit_rule(
     let (from, to) = places_of(table, rule);
     for i in from..to {
         if let Some(other) = other_of(pointer, table, bases, exts, rule, i) {
-            out.push(Finding {
+            let found = Finding {
                 rule: n + 1,
                 entry: i,
                 other,
-            })?;
+            };
+            out.push(found)?;
         }
     }
     Ok(())

@@ -23,7 +23,7 @@ use Rattle.mpt_route.specs.declared.route.Answer.TheVariants as answer
 use Rattle.mpt_route.specs.Sense.{is_reserved, conforms, bus_kind_of}
 use Rattle.mpt_route.specs.Routes.{has_reason, reasons, is_other, is_some_other, is_some_same, low_on, taken_by, answer_unless, answer_after, routes_of, is_enabled, io_place_in, bus_kind_in}
 use Rattle.mpt_route.specs.Reasons.{asked_row, IsOnAskedPin, IsUnroutedBecause, place_of, IsAnswerTo, AreRoutesOf}
-use Rattle.mpt_route.proofs.PinLemmas.{has_answer_per_entry, follows_earlier, before, takes_pins_once}
+use Rattle.mpt_route.proofs.PinLemmas.{has_answer_per_entry, follows_earlier, takes_pins_once}
 
 -- what is found passes the test, and nothing before it does
 first_found : (f : Why → Bool) (ws : List Why) (w : Why) → find f ws ≡ Some w
@@ -54,7 +54,7 @@ none_found f (x ∷ ws) k v h e = go (f x) refl k e h (λ j q r. none_found f ws
     go false q (suc k) e r again = again k e r
 
 -- a reason stands in the list at its place
-listed : (v : Why) → slice_get reasons (place_of v) ≡ Some v
+pub listed : (v : Why) → slice_get reasons (place_of v) ≡ Some v
 listed why.DestWide = refl
 listed why.UnknownBus = refl
 listed why.UnknownIo = refl

@@ -1,6 +1,6 @@
 -- Rows say what their entries ask for.
 use Rattle.std.proofs.Common.{◌≡◌, ℕ, zero, suc, ◌+◌, ◌*◌, ◌/◌, ◌%◌, ◌^◌, ◌<◌, ◌≤◌, Bool, true, false, ◌&&◌, List, [], ◌∷◌, length, take, get_or, sym, refl, ap, subst, ◌∙◌, arith}
-use Rattle.std.specs.Prelude.{Option, Some, None, ◌==◌, slice_get, filter, unwrap_or, is_none, position, All}
+use Rattle.std.specs.Prelude.{Option, Some, None, ◌==◌, slice_get, filter, unwrap_or, is_none, All}
 use Rattle.std.proofs.lemmas.List.Quantifiers.{position-Some}
 use Rattle.std.proofs.lemmas.Option.{slice_get_within, slice_get-get_or}
 use Rattle.mpt_spec.specs.declared.entry.IntEntry.{IntEntry}
@@ -10,12 +10,11 @@ use Rattle.mpt_spec.specs.declared.interrupt.Kind.TheVariants as kind
 use Rattle.mpt_spec.specs.Interrupts.{kind_of, polarity_of, trigger_of}
 use Rattle.mpt_route.specs.declared.platform.Platform.{Platform}
 use Rattle.mpt_route.specs.declared.route.Route.{Route}
-use Rattle.mpt_route.specs.declared.route.Why.{Why}
 use Rattle.mpt_route.specs.declared.route.Why.TheVariants as why
 use Rattle.mpt_route.specs.declared.route.Answer.{Answer}
 use Rattle.mpt_route.specs.declared.route.Answer.TheVariants as answer
-use Rattle.mpt_route.specs.Routes.{routes_of, is_enabled, bus_kind_in, io_place_in, high_word_of, own_row, row_at, vector_of, mode_of, is_int, bit, low_word_of}
-use Rattle.mpt_route.specs.Reasons.{asked_row, IsUnroutedBecause, IsAnswerTo, AreRoutesOf}
+use Rattle.mpt_route.specs.Routes.{routes_of, is_enabled, bus_kind_in, io_place_in, high_word_of, own_row, row_at, vector_of, mode_of, is_int, bit}
+use Rattle.mpt_route.specs.Reasons.{IsAnswerTo}
 use Rattle.mpt_route.specs.Sense.{is_low, is_level}
 use Rattle.mpt_route.proofs.ReasonLemmas.{are_routes, unknown_io, unknown_kind}
 use Rattle.mpt_route_laws.specs.Rows.{IfRouted, IsOnPin, is_bus_level_low, IsRowOf}
@@ -146,7 +145,7 @@ is_row_of p elcr i e r at routed =
     row_says p elcr i e r place.0 k.0 place.1 k.1 (place_below p.ios e.dest place.0 place.1) (pin_below p elcr i e r at routed) (sym (is_row p elcr i e r at routed))
 
 -- an answer is that to an entry
-entry_at : (es : List IntEntry) (xs : List Answer) (j : ℕ) (a : Answer) → length xs ≡ length es → slice_get xs j ≡ Some a → (e : IntEntry) × (slice_get es j ≡ Some e)
+pub entry_at : (es : List IntEntry) (xs : List Answer) (j : ℕ) (a : Answer) → length xs ≡ length es → slice_get xs j ≡ Some a → (e : IntEntry) × (slice_get es j ≡ Some e)
 entry_at es [] j a q h = absurd (cc)
 entry_at [] (x ∷ xs) j a q h = absurd (omega arith)
 entry_at (e ∷ es) (x ∷ xs) zero a q h = (e, refl)

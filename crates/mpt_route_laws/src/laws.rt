@@ -1,9 +1,10 @@
 //! What is true of every platform's routes.
 
-ghost use Rattle.std.specs.Prelude.{◌≡◌, ◌<◌, ℕ, Some, slice_get, All};
+ghost use Rattle.std.specs.Prelude.{◌≡◌, ◌<◌, ℕ, List, Some, slice_get, All};
 ghost use Rattle.mpt_spec.specs.declared.entry.IntEntry.{IntEntry};
 ghost use Rattle.mpt_route.specs.declared.platform.Platform.{Platform};
 ghost use Rattle.mpt_route.specs.declared.route.Route.{Route};
+ghost use Rattle.mpt_route.specs.declared.route.Answer.{Answer};
 ghost use Rattle.mpt_route.specs.declared.route.Answer.TheVariants as answer;
 ghost use Rattle.mpt_route.specs.Routes.{routes_of};
 ghost use Rattle.mpt_route.specs.Reasons.{AreRoutesOf};
@@ -13,6 +14,11 @@ ghost use Rattle.mpt_route_laws.specs.Rows.{IfRouted, IsOnPin, IsRowOf};
 /// does.
 pub fn routes_tell_reasons()
     ensures { (p : Platform) (elcr : ℕ) → AreRoutesOf p elcr (routes_of p elcr) }
+{}
+
+/// No other list of answers does.
+pub fn routes_are_one()
+    ensures { (p : Platform) (elcr : ℕ) (answers : List Answer) → AreRoutesOf p elcr answers → answers ≡ routes_of p elcr }
 {}
 
 /// Each routed answer is on one of four I/O APICs and one of 24 pins.
