@@ -65,30 +65,25 @@ fn each_edge_pin(rt: HostRuntime) {
     for pin in 0..24u8 {
         let mut chip = IoApic::new(0);
         let mask = 1u32 << pin;
-        assert!(rt;
-            chip.collect(mask) == Collected { due: 0, joined: 0 },
-            "masked pin {pin}"
-        );
+        assert!(rt; chip.collect(mask) == Collected { due: 0, joined: 0 });
         chip.select(17 + 2 * pin);
         chip.write(0xF500_0000);
         chip.select(16 + 2 * pin);
-        assert!(rt; chip.write(0x31) == Effect::Plain, "pin {pin}");
-        assert!(rt; chip.drive(pin, true) == Effect::Plain, "pin {pin}");
+        assert!(rt; chip.write(0x31) == Effect::Plain);
+        assert!(rt; chip.drive(pin, true) == Effect::Plain);
         assert!(rt;
             chip.collect(0xFF_FFFF)
                 == Collected {
                     due: mask,
                     joined: 0
-                },
-            "pin {pin}"
+                }
         );
         assert!(rt;
             chip.collect(0xFF_FFFF)
                 == Collected {
                     due: 0,
                     joined: mask
-                },
-            "pin {pin}"
+                }
         );
         let message = Message {
             pin,
@@ -98,22 +93,14 @@ fn each_edge_pin(rt: HostRuntime) {
             vector: 0x31,
             level: false,
         };
-        assert!(rt; chip.next_due() == Some(message), "pin {pin}");
-        assert_eq!(rt;
-            (chip.line(), chip.due(), chip.remote()),
-            (mask, mask, 0),
-            "pin {pin}"
-        );
-        assert!(rt; chip.write(0x1_0031) == Effect::Withdrawn, "pin {pin}");
-        assert!(rt; chip.write(0x31) == Effect::Plain, "pin {pin}");
+        assert!(rt; chip.next_due() == Some(message));
+        assert_eq!(rt; (chip.line(), chip.due(), chip.remote()), (mask, mask, 0));
+        assert!(rt; chip.write(0x1_0031) == Effect::Withdrawn);
+        assert!(rt; chip.write(0x31) == Effect::Plain);
         chip.collect(mask);
         chip.sent(pin, true);
-        assert_eq!(rt;
-            (chip.line(), chip.due(), chip.remote()),
-            (mask, 0, 0),
-            "pin {pin}"
-        );
-        assert!(rt; chip.next_due() == None, "pin {pin}");
+        assert_eq!(rt; (chip.line(), chip.due(), chip.remote()), (mask, 0, 0));
+        assert!(rt; chip.next_due() == None);
     }
 }
 
@@ -122,42 +109,26 @@ fn each_level_pin(rt: HostRuntime) {
     for pin in 0..24u8 {
         let mut chip = IoApic::new(0);
         let mask = 1u32 << pin;
-        assert!(rt; chip.drive(pin, true) == Effect::Plain, "masked pin {pin}");
+        assert!(rt; chip.drive(pin, true) == Effect::Plain);
         chip.select(16 + 2 * pin);
-        assert!(rt; chip.write(0x8040) == Effect::Due, "pin {pin}");
-        assert!(rt;
-            chip.collect(mask) == Collected { due: 0, joined: 0 },
-            "pin {pin}"
-        );
+        assert!(rt; chip.write(0x8040) == Effect::Due);
+        assert!(rt; chip.collect(mask) == Collected { due: 0, joined: 0 });
         chip.sent(pin, false);
-        assert!(rt;
-            chip.drive(pin, true) == Effect::Plain,
-            "pin {pin} high again"
-        );
-        assert!(rt;
-            chip.write(0x8040) == Effect::Due,
-            "pin {pin} written again"
-        );
+        assert!(rt; chip.drive(pin, true) == Effect::Plain);
+        assert!(rt; chip.write(0x8040) == Effect::Due);
         chip.sent(pin, true);
-        assert!(rt; chip.drive(pin, false) == Effect::Plain, "pin {pin}");
-        assert!(rt;
-            chip.drive(pin, true) == Effect::Plain,
-            "pin {pin} under remote IRR"
-        );
-        assert_eq!(rt;
-            (chip.line(), chip.due(), chip.remote()),
-            (mask, 0, mask),
-            "pin {pin}"
-        );
+        assert!(rt; chip.drive(pin, false) == Effect::Plain);
+        assert!(rt; chip.drive(pin, true) == Effect::Plain);
+        assert_eq!(rt; (chip.line(), chip.due(), chip.remote()), (mask, 0, mask));
         chip.eoi(0x41);
-        assert_eq!(rt; chip.remote(), mask, "pin {pin}, another vector");
-        assert!(rt; chip.write(0x1_8040) == Effect::Plain, "pin {pin}");
+        assert_eq!(rt; chip.remote(), mask);
+        assert!(rt; chip.write(0x1_8040) == Effect::Plain);
         chip.eoi(0x40);
-        assert_eq!(rt; (chip.due(), chip.remote()), (0, 0), "masked pin {pin}");
-        assert!(rt; chip.write(0x8040) == Effect::Due, "pin {pin}");
+        assert_eq!(rt; (chip.due(), chip.remote()), (0, 0));
+        assert!(rt; chip.write(0x8040) == Effect::Due);
         chip.sent(pin, true);
-        assert!(rt; chip.write(0x40) == Effect::Plain, "pin {pin} to edge");
-        assert_eq!(rt; chip.remote(), 0, "pin {pin} to edge");
+        assert!(rt; chip.write(0x40) == Effect::Plain);
+        assert_eq!(rt; chip.remote(), 0);
     }
 }
 
