@@ -13,10 +13,11 @@ use Rattle.mpb_script.specs.declared.script.ScriptFault.TheVariants as fault
 use Rattle.mpb_script.specs.Document.{text_of, number_at, elements_at}
 use Rattle.mpb_script.specs.Keys.{wrong_key, ◌<|>◌}
 
--- the tables of the processors and of the devices
+-- the tables of the processors
 abbrev pub cpu_tables : Data → List Data
 cpu_tables d = elements_at (codes "cpu") d
 
+-- the tables of the devices
 abbrev pub device_tables : Data → List Data
 device_tables d = elements_at (codes "device") d
 

@@ -97,7 +97,7 @@ its_fault : (d : Data) (agent : Agent) (index : ℕ) (why : WordWhy) → IsFirst
 unfolding script_fault_of
 its_fault d agent index why first =
     let words : first_some word_fault (all_words d) ≡ Some (fault.Word agent index why) =
-          ap (first_some word_fault) first.split ∙ first_of_split word_fault first.before first.word first.after (fault.Word agent index why) (no_causes first.before first.right) (told first.word agent index why first.whose first.place first.wrong) in
+    ap (first_some word_fault) first.split ∙ first_of_split word_fault first.before first.word first.after (fault.Word agent index why) (no_causes first.before first.right) (told first.word agent index why first.whose first.place first.wrong) in
     let few : many (length (all_words d)) ≡ None = not_too_many (length (all_words d)) first.few in
     ap (λ o. option_map fault.Key o <|> (many (length (all_words d)) <|> first_some word_fault (all_words d))) first.keys
     ∙ ap (λ o. o <|> first_some word_fault (all_words d)) few

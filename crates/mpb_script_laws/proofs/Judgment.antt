@@ -76,7 +76,7 @@ unfolding script_fault_of
 no_wrong_word d none =
     sym (first_wrong_word d)
     ∙ none_second (many (length (all_words d))) (first_some word_fault (all_words d))
-      (none_second (option_map fault.Key (wrong_key d)) (many (length (all_words d)) <|> first_some word_fault (all_words d)) none)
+    (none_second (option_map fault.Key (wrong_key d)) (many (length (all_words d)) <|> first_some word_fault (all_words d)) none)
 
 script_says : (d : Data) → script_fault_of d ≡ None → Describes d (script_of d)
 unfolding wrong_words
