@@ -63,7 +63,7 @@ Describes-unique d s t a b =
     let all_devices : s.devices ≡ t.devices = devices_unique s.devices t.devices (a.device_words ∙ sym b.device_words) in
     λ i. record { page = pages i; elcr = elcrs i; present = presents i; cpus = all_cpus i; devices = all_devices i }
 
-IsScriptOf-unique : (text : List ℕ) (s t : Script) → IsScriptOf text s → IsScriptOf text t → s ≡ t
+pub IsScriptOf-unique : (text : List ℕ) (s t : Script) → IsScriptOf text s → IsScriptOf text t → s ≡ t
 IsScriptOf-unique text s t a b =
     let same : a.members ≡ b.members = one_document text a.members b.members a.document b.document in
     Describes-unique (table b.members) s t (subst (λ ms. Describes (table ms) s) same a.says) b.says
@@ -83,7 +83,7 @@ faults_of_documents text e f one two =
     let found : Some e ≡ Some f = sym one.2 ∙ ap (λ ms. script_fault_of (table ms)) same ∙ two.2 in
     cc
 
-HasFault-unique : (text : List ℕ) (e f : ScriptFault) → HasFault text e → HasFault text f → e ≡ f
+pub HasFault-unique : (text : List ℕ) (e f : ScriptFault) → HasFault text e → HasFault text f → e ≡ f
 HasFault-unique text e f a b = elim (HasFault-either text e a) [
   | inl absent ↦ elim (HasFault-either text f b) [
     | inl none ↦ absent.0 ∙ sym none.0
@@ -96,8 +96,8 @@ HasFault-unique text e f a b = elim (HasFault-either text e a) [
 ]
 
 -- a script has no fault
-sound : (text : List ℕ) (s : Script) (f : ScriptFault) → IsScriptOf text s → HasFault text f → ⊥
-sound text s f is has = elim (HasFault-either text f has) [
+pub IsScriptOf-no_fault : (text : List ℕ) (s : Script) (f : ScriptFault) → IsScriptOf text s → HasFault text f → ⊥
+IsScriptOf-no_fault text s f is has = elim (HasFault-either text f has) [
   | inl absent ↦ absent.1 is.members is.document
   | inr doc ↦
       let same : doc.0 ≡ is.members = one_document text doc.0 is.members doc.1 is.document in
@@ -107,14 +107,14 @@ sound text s f is has = elim (HasFault-either text f has) [
 
 pub AnswersScript-only : (text : List ℕ) (r : Result Script ScriptFault) → IfOk r (IsScriptOf text) → IfErr r (IsCauseOf text) → (s : Script) → IsScriptOf text s → AnswersScript r s
 AnswersScript-only text (Ok found) ok err s is = IsScriptOf-unique text found s ok is
-AnswersScript-only text (Err fault.NotToml) ok err s is = sound text s fault.NotToml is err
-AnswersScript-only text (Err (fault.Key k)) ok err s is = sound text s (fault.Key k) is err
-AnswersScript-only text (Err (fault.Many n)) ok err s is = sound text s (fault.Many n) is err
-AnswersScript-only text (Err (fault.Word a i w)) ok err s is = sound text s (fault.Word a i w) is err
+AnswersScript-only text (Err fault.NotToml) ok err s is = IsScriptOf-no_fault text s fault.NotToml is err
+AnswersScript-only text (Err (fault.Key k)) ok err s is = IsScriptOf-no_fault text s (fault.Key k) is err
+AnswersScript-only text (Err (fault.Many n)) ok err s is = IsScriptOf-no_fault text s (fault.Many n) is err
+AnswersScript-only text (Err (fault.Word a i w)) ok err s is = IsScriptOf-no_fault text s (fault.Word a i w) is err
 AnswersScript-only text (Err fault.NoMemory) ok err s is = tt
 
 pub AnswersFault-only : (text : List ℕ) (r : Result Script ScriptFault) → IfOk r (IsScriptOf text) → IfErr r (IsCauseOf text) → (f : ScriptFault) → HasFault text f → AnswersFault r f
-AnswersFault-only text (Ok found) ok err f has = sound text found f ok has
+AnswersFault-only text (Ok found) ok err f has = IsScriptOf-no_fault text found f ok has
 AnswersFault-only text (Err fault.NotToml) ok err f has = HasFault-unique text fault.NotToml f err has
 AnswersFault-only text (Err (fault.Key k)) ok err f has = HasFault-unique text (fault.Key k) f err has
 AnswersFault-only text (Err (fault.Many n)) ok err f has = HasFault-unique text (fault.Many n) f err has

@@ -15,6 +15,7 @@ use Rattle.mpb_script.specs.Document.{HasDocument, elements_at, number_at, whole
 use Rattle.mpb_script.specs.Keys.{◌<|>◌, unless, is_page, wrong_key, wrong_head, wrong_cpus, wrong_devices, has_further_key}
 use Rattle.mpb_words.specs.Words.{cpu_op_of, device_word_of}
 use Rattle.mpb_script.specs.Words.{PlacedWord, many, cpu_tables, device_tables, all_words, word_why, word_fault, first_some, script_fault_of}
+use Rattle.mpb_script.specs.Script.{HasFault}
 use Rattle.mpb_script.specs.Answers.{IsCauseOf}
 use Rattle.mpb_script.specs.Steps.{IsWrong, word_count, wrong_words}
 use Rattle.mpb_script.proofs.WordLemmas.{first_wrong_word, length-all_words}
@@ -93,6 +94,7 @@ few_devices d right =
 abbrev IsNamed : Option ScriptFault → Type 0
 IsNamed None = Unit {0}
 IsNamed (Some fault.NotToml) = ⊥
+IsNamed (Some fault.NoMemory) = ⊥
 IsNamed (Some e) = Unit {0}
 
 named_first : (a b : Option ScriptFault) → IsNamed a → IsNamed b → IsNamed (a <|> b)
@@ -120,6 +122,14 @@ unfolding script_fault_of
 named d =
     named_first (option_map fault.Key (wrong_key d)) (many (length (all_words d)) <|> first_some word_fault (all_words d)) (named_key (wrong_key d))
     (named_first (many (length (all_words d))) (first_some word_fault (all_words d)) (named_if _ _) (named_words (all_words d)))
+
+-- a document's fault is one of its text
+pub named_fault : (text : List ℕ) (ms : Members) (f : ScriptFault) → HasDocument text ms → script_fault_of (table ms) ≡ Some f → HasFault text f
+named_fault text ms fault.NotToml doc found = absurd (subst IsNamed found (named (table ms)))
+named_fault text ms fault.NoMemory doc found = absurd (subst IsNamed found (named (table ms)))
+named_fault text ms (fault.Key k) doc found = (ms, doc, found)
+named_fault text ms (fault.Many n) doc found = (ms, doc, found)
+named_fault text ms (fault.Word a i w) doc found = (ms, doc, found)
 
 -- a refusal of a document is one of the text
 refused : (text : List ℕ) (d : Data) (e : ScriptFault) → (ms : Members) × HasDocument text ms × (d ≡ table ms) → script_fault_of d ≡ Some e → (ms : Members) × HasDocument text ms × (script_fault_of (table ms) ≡ Some e)

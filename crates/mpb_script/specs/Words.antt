@@ -13,9 +13,11 @@ use Rattle.mpb_script.specs.declared.script.ScriptFault.TheVariants as fault
 use Rattle.mpb_script.specs.Document.{text_of, number_at, elements_at}
 use Rattle.mpb_script.specs.Keys.{wrong_key, ◌<|>◌}
 
+-- the tables of the processors
 abbrev pub cpu_tables : Data → List Data
 cpu_tables d = elements_at (codes "cpu") d
 
+-- the tables of the devices
 abbrev pub device_tables : Data → List Data
 device_tables d = elements_at (codes "device") d
 
@@ -62,6 +64,7 @@ word_why (of.Cpu id) text = why_wrong (cpu_op_of text)
 word_why (of.Dev number) text = why_wrong (device_word_of text)
 word_why (of.Io place) text = None
 
+-- its fault, where it is wrong
 abbrev pub word_fault : PlacedWord → Option ScriptFault
 word_fault w = option_map (λ why. fault.Word w.agent w.index why) (word_why w.agent w.text)
 

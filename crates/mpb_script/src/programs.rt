@@ -97,7 +97,8 @@ pub(crate) fn cpus(alloc: Global, tables: &[Value]) -> Result<Sequence<CpuScript
     let mut cpus = Vec::new(alloc);
     for table in tables {
         let id = number_at(table, "id", 254) as u8;
-        let words = match cpu_program(alloc, Agent::Cpu(id), elements_at(table, "words")) {
+        let words = elements_at(table, "words");
+        let words = match cpu_program(alloc, Agent::Cpu(id), words) {
             Ok(words) => words,
             Err(fault) => return Err(fault),
         };
@@ -121,15 +122,12 @@ pub(crate) fn devices(
 {
     let mut devices = Vec::new(alloc);
     for (number, table) in tables.iter().enumerate() {
-        let program = match device_program(
-            alloc,
-            Agent::Dev(number as u8),
-            elements_at(table, "words"),
-        ) {
-            Ok(program) => program,
+        let words = elements_at(table, "words");
+        let words = match device_program(alloc, Agent::Dev(number as u8), words) {
+            Ok(words) => words,
             Err(fault) => return Err(fault),
         };
-        match devices.push(program) {
+        match devices.push(words) {
             Ok(()) => {}
             Err(_) => return Err(ScriptFault::NoMemory),
         }

@@ -28,6 +28,7 @@ number_of part =
     else if has_leading_zero part then None
     else digits_number 10 part
 
+-- the number, and 0 where there is none
 abbrev pub value_of : Option ℕ → ℕ
 value_of None = 0
 value_of (Some n) = n

@@ -88,6 +88,7 @@ abbrev pub cpu_op_named : Option CpuName → List (List ℕ) → Result Op WordW
 cpu_op_named None parts = Err why.Name
 cpu_op_named (Some name) parts = said (cpu_op name) (numbers_of (cpu_limits name) parts)
 
+-- what the parts of a processor's word say: the first is the name
 abbrev pub cpu_op_in : List (List ℕ) → Result Op WordWhy
 cpu_op_in [] = Err why.Name
 cpu_op_in (t ∷ parts) = cpu_op_named (cpu_name_of t) parts
@@ -96,10 +97,12 @@ cpu_op_in (t ∷ parts) = cpu_op_named (cpu_name_of t) parts
 unfoldable pub cpu_op_of : List ℕ → Result Op WordWhy
 cpu_op_of word = cpu_op_in (parts_of word)
 
+-- what a name and the parts after it say, of a device
 abbrev pub device_word_named : Option DeviceName → List (List ℕ) → Result DevWord WordWhy
 device_word_named None parts = Err why.Name
 device_word_named (Some name) parts = said (device_word name) (numbers_of (device_limits name) parts)
 
+-- what the parts of a device's word say: the first is the name
 abbrev pub device_word_in : List (List ℕ) → Result DevWord WordWhy
 device_word_in [] = Err why.Name
 device_word_in (t ∷ parts) = device_word_named (device_name_of t) parts
