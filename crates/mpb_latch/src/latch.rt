@@ -106,11 +106,10 @@ impl Latch {
         ensures log { seat.new ≡ record seat.old { log = seat.old.log ++ (p, result) ∷ [] } }
         ensures plan { FollowsPlan seat.new.log seat.new.plan }
     {
-        let found = self.table.shared.fetch_or::<Pulsed>(
-            &mut seat.seat,
-            p.io as usize + 1,
-            1 << p.pin,
-        );
+        let found = self
+            .table
+            .shared
+            .fetch_or::<Pulsed>(&mut seat.seat, p.io as usize + 1, 1 << p.pin);
         let hit = hit_at(found, p.pin);
         let Ok(()) = seat.log.push((p, hit)) else {
             unreachable!()
