@@ -10,11 +10,11 @@ use std::test::Fail;
 fn first_wrong_cut(alloc: Global, text: &[u8]) -> Option<usize> {
     let mut line = 1u32;
     let mut want = Answer::Early(1);
-    for (length, byte) in text.iter().enumerate() {
+    for length in 0..text.len() {
         if answer_to(alloc, &text[..length]) != want {
             return Some(length);
         }
-        if *byte == b'\n' {
+        if text[length] == b'\n' {
             line = line.saturating_add(1);
             want = Answer::Early(line);
         } else {
@@ -36,12 +36,12 @@ fn cut_at_each_byte(rt: HostRuntime) {
 fn first_wrong_byte(alloc: Global, text: &[u8]) -> Result<Option<usize>, Fail> {
     let mut changed = Vec::from_slice(alloc, text)?;
     let mut line = 1u32;
-    for (place, byte) in text.iter().enumerate() {
-        let answer = answer_with(alloc, &mut changed, place, *byte);
+    for place in 0..text.len() {
+        let answer = answer_with(alloc, &mut changed, place, text[place]);
         if answer != Answer::Form(line) {
             return Ok(Some(place));
         }
-        if *byte == b'\n' {
+        if text[place] == b'\n' {
             line = line.saturating_add(1);
         }
     }

@@ -1,6 +1,7 @@
 //! What every theme stands on: the answer to a text, and a listing of which one line is another.
 
 use mpt_parse::{LineWhy, ListingFault, parse};
+use mpt_spec::Tables;
 use std::alloc::Global;
 use std::test::Fail;
 
@@ -20,8 +21,6 @@ pub(crate) enum Answer {
     /// The bytes that don't fit.
     Unfit(u64),
     NoMemory,
-    /// The text has more than 4 MiB, and wasn't asked about.
-    TooLong,
 }
 
 /// One text, and what `parse` answers to it.
@@ -35,12 +34,17 @@ pub(crate) struct Row {
     pub(crate) answer: Answer,
 }
 
+/// The tables of a text of at most 4 MiB, or its fault. A longer one isn't asked about.
+pub(crate) fn tables_of(alloc: Global, text: &[u8]) -> Result<Tables, ListingFault> {
+    if LIMIT < text.len() {
+        return Err(ListingFault::NoMemory);
+    }
+    parse(alloc, text)
+}
+
 /// The answer to a text.
 pub(crate) fn answer_to(alloc: Global, text: &[u8]) -> Answer {
-    if LIMIT < text.len() {
-        return Answer::TooLong;
-    }
-    match parse(alloc, text) {
+    match tables_of(alloc, text) {
         Ok(_) => Answer::Accepted,
         Err(fault) => answer_of(fault),
     }

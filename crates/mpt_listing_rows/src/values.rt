@@ -1,8 +1,8 @@
 //! Listings that are accepted: the tables that they say, and their text again.
 
+use crate::harness::tables_of;
 use crate::texts::{DEFAULT, EVERY_FORM, ONE_PROCESSOR, USUAL_BOARD};
 use mpt_listing::print;
-use mpt_parse::parse;
 use mpt_spec::{
     Base, Body, Bus, Ext, Hierarchy, IntEntry, IoApic, Modifier, Pointer, Processor, Space, Table,
 };
@@ -11,7 +11,7 @@ use std::test::Fail;
 #[test]
 fn texts_come_again(rt: HostRuntime) -> Result<(), Fail> {
     for text in [ONE_PROCESSOR, DEFAULT, USUAL_BOARD, EVERY_FORM] {
-        let tables = parse(rt.alloc(), text)?;
+        let tables = tables_of(rt.alloc(), text)?;
         let again = print(rt.alloc(), &tables)?;
         assert_eq!(rt; again.as_slice(), text);
     }
@@ -20,7 +20,7 @@ fn texts_come_again(rt: HostRuntime) -> Result<(), Fail> {
 
 #[test]
 fn default_configuration(rt: HostRuntime) -> Result<(), Fail> {
-    let tables = parse(rt.alloc(), DEFAULT)?;
+    let tables = tables_of(rt.alloc(), DEFAULT)?;
     assert_eq!(rt; tables.at, 0x9FC00);
     let pointer = Pointer {
         address: 0,
@@ -125,7 +125,7 @@ fn has_header(table: &Table) -> bool {
 
 #[test]
 fn every_form(rt: HostRuntime) -> Result<(), Fail> {
-    let tables = parse(rt.alloc(), EVERY_FORM)?;
+    let tables = tables_of(rt.alloc(), EVERY_FORM)?;
     assert_eq!(rt; tables.at, 0xF0000);
     let pointer = Pointer {
         address: 0xE0000,

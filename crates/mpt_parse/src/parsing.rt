@@ -18,10 +18,12 @@ use mpt_spec::{Base, Body, Ext, Pointer, Sequence, Table, Tables};
 use mpt_write::{block_bytes, fits};
 use std::alloc::Global;
 
-/// The tables of which the text is the listing, if they fit into an image of 1 MiB.
+/// The tables of which a text of fewer than 2^32 bytes is the listing, if they fit into an image of
+/// 1 MiB.
 ///
 /// Else the answer is the first bad line, counted from 1, or, where all lines are right, that the tables
-/// don't fit. Where memory runs out, that is the answer.
+/// don't fit, with the bytes of their block. Memory is taken for entries and for the bytes of opaque
+/// ones; where it runs out, that is the answer.
 pub fn parse(alloc: Global, text: &[u8]) -> Result<Tables, ListingFault>
     requires { length text.now < 2 ^ 32 }
     // Each answer has its cause,
