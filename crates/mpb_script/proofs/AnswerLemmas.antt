@@ -1,8 +1,6 @@
 -- An answer with its cause is the only one: a text is one script at most, or has one first fault, and never both.
-use Rattle.std.proofs.Common.{◌≡◌, List, [], ◌∷◌, map, ℕ, Option, Some, None, Result, Ok, Err, IfOk, IfErr, ◌⊎◌, inl, inr, refl, sym, subst, ap, ◌∙◌}
+use Rattle.std.proofs.Common.{◌≡◌, List, [], ◌∷◌, map, ℕ, Some, None, Result, Ok, Err, IfOk, IfErr, ◌⊎◌, inl, inr, refl, sym, subst, ap, ◌∙◌}
 use Rattle.toml.specs.Data.{Members, Data, table}
-use Rattle.mpb_words.specs.declared.refusal.WordWhy.{WordWhy}
-use Rattle.mpb_spec.specs.declared.agent.Op.{Op}
 use Rattle.mpb_spec.specs.declared.config.DevWord.{DevWord}
 use Rattle.mpb_script.specs.declared.script.Script.{Script}
 use Rattle.mpb_script.specs.declared.script.CpuScript.{CpuScript}

@@ -1,19 +1,16 @@
 -- The parts of a document's first fault, one by one.
-use Rattle.std.proofs.Common.{◌≡◌, ℕ, ◌+◌, ◌<◌, ◌≤◌, suc, min, Bool, true, false, not, List, [], ◌∷◌, length, nat_le, cond, codes, Option, Some, None, option_map, Result, Ok, Err, refl, sym, ap, subst, ◌∙◌, inl, inr, arith}
+use Rattle.std.proofs.Common.{◌≡◌, ℕ, ◌+◌, ◌<◌, ◌≤◌, min, Bool, true, false, not, List, [], ◌∷◌, length, nat_le, cond, codes, Option, Some, None, option_map, refl, sym, ap, subst, ◌∙◌, inl, inr, arith}
 use Rattle.std.proofs.lemmas.Bool.{leb-true}
 use Rattle.std.proofs.lemmas.Bool.Decides.{nat_tests}
 use Rattle.toml.specs.Data.{Data, Members, table, get}
-use Rattle.mpb_spec.specs.declared.agent.Agent.{Agent}
-use Rattle.mpb_spec.specs.declared.agent.Agent.TheVariants as who
 use Rattle.mpb_script.specs.declared.keys.Place.TheVariants as of
 use Rattle.mpb_script.specs.declared.script.KeyName.{KeyName}
 use Rattle.mpb_script.specs.declared.script.KeyName.TheVariants as key
 use Rattle.mpb_words.specs.declared.refusal.WordWhy.{WordWhy}
 use Rattle.mpb_script.specs.declared.script.ScriptFault.{ScriptFault}
 use Rattle.mpb_script.specs.declared.script.ScriptFault.TheVariants as fault
-use Rattle.mpb_script.specs.Document.{HasDocument, elements_at, number_at, whole_at, optional, is_whole, is_list_of, is_table}
+use Rattle.mpb_script.specs.Document.{HasDocument, elements_at, whole_at, optional, is_whole, is_list_of, is_table}
 use Rattle.mpb_script.specs.Keys.{◌<|>◌, unless, is_page, wrong_key, wrong_head, wrong_cpus, wrong_devices, has_further_key}
-use Rattle.mpb_words.specs.Words.{cpu_op_of, device_word_of}
 use Rattle.mpb_script.specs.Words.{PlacedWord, many, cpu_tables, device_tables, all_words, word_why, word_fault, first_some, script_fault_of}
 use Rattle.mpb_script.specs.Script.{HasFault}
 use Rattle.mpb_script.specs.Answers.{IsCauseOf}

@@ -1,5 +1,5 @@
 -- Tables that are read one by one.
-use Rattle.std.proofs.Common.{◌≡◌, ℕ, ◌+◌, ◌<◌, ◌≤◌, suc, min, List, [], ◌∷◌, ◌++◌, length, map, take, drop, get_or, Option, Some, None, Result, Ok, Err, codes, refl, sym, ap, ◌∙◌, add-one, arith, subst, ◌⊎◌, inl, inr}
+use Rattle.std.proofs.Common.{◌≡◌, ℕ, ◌+◌, ◌<◌, ◌≤◌, suc, List, [], ◌∷◌, ◌++◌, length, map, take, drop, get_or, Option, Some, None, Ok, codes, refl, sym, ap, ◌∙◌, add-one, arith, inl, inr}
 use Rattle.std.proofs.lemmas.List.{at_drop_more, at_drop_all, take_more, take_all, length-map}
 use Rattle.std.proofs.lemmas.List.Sums.{sum_by_more, sum_by_more_le, sum_by-cons}
 use Rattle.std.specs.List.{sum_by}
@@ -10,7 +10,7 @@ use Rattle.mpb_spec.specs.declared.agent.Agent.TheVariants as of
 use Rattle.mpb_script.specs.declared.script.ScriptFault.{ScriptFault}
 use Rattle.mpb_spec.specs.declared.config.DevWord.{DevWord}
 use Rattle.mpb_script.specs.declared.script.CpuScript.{CpuScript}
-use Rattle.mpb_script.specs.Document.{elements_at, number_at, text_of}
+use Rattle.mpb_script.specs.Document.{elements_at, text_of}
 use Rattle.mpb_script.specs.Steps.{IsWrong, IsProgram, AreCpus, AreDevices, word_count, wrong_word, wrong_cpu_word, wrong_device_word}
 use Rattle.mpb_script.specs.Keys.{◌<|>◌}
 use Rattle.mpb_words.specs.Words.{cpu_op_of, device_word_of}

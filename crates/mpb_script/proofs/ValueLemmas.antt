@@ -1,13 +1,11 @@
 -- A script that was read has the values of one.
-use Rattle.std.proofs.Common.{◌≡◌, ℕ, suc, ◌+◌, ◌<◌, ◌≤◌, ◌⊎◌, inl, inr, Bool, true, false, not, cond, ◌&&◌, ◌||◌, List, [], ◌∷◌, ◌++◌, length, map, codes, Option, Some, None, IfSome, option_map, Result, Ok, Err, IfOk, nat_lt, nat_le, nat_eq, refl, sym, ap, subst, ◌∙◌, arith, ℤ, pos, negsuc}
+use Rattle.std.proofs.Common.{◌≡◌, ℕ, suc, ◌+◌, ◌<◌, ◌≤◌, ◌⊎◌, inl, inr, Bool, true, false, not, cond, ◌||◌, List, [], ◌∷◌, ◌++◌, length, map, codes, Option, Some, None, IfSome, option_map, Result, Ok, Err, IfOk, nat_lt, nat_le, nat_eq, refl, sym, ap, subst, ◌∙◌, arith, ℤ, pos, negsuc}
 use Rattle.std.proofs.lemmas.Bool.{leb-true, ltb-true}
 use Rattle.std.proofs.lemmas.List.{length-map}
 use Rattle.std.proofs.lemmas.List.Folds.{list_any-append}
 use Rattle.std.proofs.lemmas.List.Sums.{sum_by-cons}
-use Rattle.std.proofs.lemmas.Map.Keys.{IsDistinct-cons}
-use Rattle.std.specs.List.{AllByRecursion, IsDistinct, list_any, sum_by}
-use Rattle.toml.specs.Data.{Data, Members, table, get, as_integer}
-use Rattle.mpb_spec.specs.declared.agent.Op.{Op}
+use Rattle.std.specs.List.{AllByRecursion, IsDistinct, sum_by}
+use Rattle.toml.specs.Data.{Data, table, get, as_integer}
 use Rattle.mpb_spec.specs.declared.config.DevWord.{DevWord}
 use Rattle.mpb_words.specs.declared.refusal.WordWhy.{WordWhy}
 use Rattle.mpb_words.specs.Words.{cpu_op_of, device_word_of}
@@ -20,8 +18,8 @@ use Rattle.mpb_script.specs.declared.script.Script.{Script}
 use Rattle.mpb_script.specs.declared.script.CpuScript.{CpuScript}
 use Rattle.mpb_script.specs.declared.script.ScriptFault.{ScriptFault}
 use Rattle.mpb_script.specs.declared.script.ScriptFault.TheVariants as fault
-use Rattle.mpb_script.specs.Document.{whole_up_to, whole_in, whole_found, whole_at, number_or_zero, number_in, number_at, elements, elements_at, optional, is_whole, is_list_of, is_table, text_of}
-use Rattle.mpb_script.specs.Keys.{◌<|>◌, unless, is_page, wrong_key, wrong_head, wrong_cpu, wrong_cpus, wrong_devices, has_further_key, has_words, id_of, is_number, has_id, is_new_id}
+use Rattle.mpb_script.specs.Document.{whole_up_to, whole_found, whole_at, number_or_zero, number_in, number_at, elements, elements_at, text_of}
+use Rattle.mpb_script.specs.Keys.{◌<|>◌, unless, is_page, wrong_key, wrong_head, wrong_cpu, wrong_cpus, wrong_devices, has_further_key, id_of, is_number, has_id, is_new_id}
 use Rattle.mpb_script.specs.Words.{cpu_tables, device_tables, cpu_id, words_of, many, all_words, script_fault_of}
 use Rattle.mpb_script.specs.Script.{Describes, IsScriptOf}
 use Rattle.mpb_script.specs.Values.{words_in, HasScriptValues}

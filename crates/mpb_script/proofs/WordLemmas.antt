@@ -1,18 +1,17 @@
 -- All words of a document, against the words of its tables one by one: how many they are, and the first wrong one.
-use Rattle.std.proofs.Common.{◌≡◌, ℕ, ◌+◌, suc, List, [], ◌∷◌, ◌++◌, length, map, Option, Some, None, option_map, Result, Ok, Err, codes, refl, sym, ap, ◌∙◌, zero-add, add_assoc, add-one, arith, length-append}
+use Rattle.std.proofs.Common.{◌≡◌, ℕ, ◌+◌, suc, List, [], ◌∷◌, ◌++◌, length, Option, Some, None, option_map, Result, Ok, Err, codes, refl, sym, ap, ◌∙◌, length-append}
 use Rattle.std.proofs.lemmas.List.{length-map}
 use Rattle.std.proofs.lemmas.List.Sums.{sum_by-cons}
-use Rattle.std.specs.List.{flat_map, sum_by}
+use Rattle.std.specs.List.{flat_map}
 use Rattle.toml.specs.Data.{Data}
 use Rattle.mpb_spec.specs.declared.agent.Agent.{Agent}
 use Rattle.mpb_spec.specs.declared.agent.Agent.TheVariants as of
 use Rattle.mpb_words.specs.declared.refusal.WordWhy.{WordWhy}
 use Rattle.mpb_words.specs.Words.{cpu_op_of, device_word_of}
-use Rattle.mpb_script.specs.declared.script.ScriptFault.{ScriptFault}
 use Rattle.mpb_script.specs.declared.script.ScriptFault.TheVariants as fault
 use Rattle.mpb_script.specs.Document.{text_of, elements_at}
 use Rattle.mpb_script.specs.Keys.{◌<|>◌}
-use Rattle.mpb_script.specs.Words.{PlacedWord, placed, cpu_words, device_words, all_words, words_of, cpu_id, cpu_tables, device_tables, why_wrong, word_fault, first_some}
+use Rattle.mpb_script.specs.Words.{placed, cpu_words, device_words, all_words, words_of, cpu_id, cpu_tables, device_tables, why_wrong, word_fault, first_some}
 use Rattle.mpb_script.specs.Steps.{word_count, fault_from, wrong_word, wrong_cpu_word, wrong_device_word, wrong_words}
 
 or_assoc : {A : Type 0} (a b c : Option A) → ((a <|> b) <|> c) ≡ (a <|> (b <|> c))

@@ -1,13 +1,12 @@
 -- What a script is, and why a text is none (this project's own format).
 --     IsScriptOf text s     the text is this script
 --     HasFault text f       the text is refused, and this is its first fault
-use Rattle.std.specs.Prelude.{◌≡◌, ℕ, List, Option, Some, None, option_map, codes, map, Result, Ok}
+use Rattle.std.specs.Prelude.{◌≡◌, ℕ, List, Some, None, option_map, codes, map, Ok}
 use Rattle.toml.specs.Data.{Data, Members, get, table}
 use Rattle.mpb_words.specs.Words.{cpu_op_of, device_word_of}
 use Rattle.mpb_script.specs.declared.script.ScriptFault.{ScriptFault}
 use Rattle.mpb_script.specs.declared.script.ScriptFault.TheVariants as fault
 use Rattle.mpb_script.specs.declared.script.Script.{Script}
-use Rattle.mpb_script.specs.declared.script.CpuScript.{CpuScript}
 use Rattle.mpb_script.specs.Document.{HasDocument, number_in, number_at, elements}
 use Rattle.mpb_script.specs.Words.{cpu_tables, device_tables, cpu_id, words_of, script_fault_of}
 

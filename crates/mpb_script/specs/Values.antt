@@ -1,10 +1,9 @@
 -- The values of a script that was read: what a board may rest on.
 --     HasScriptValues s     ids are distinct and below 255, words are of their kind and in range, counts within limits
-use Rattle.std.specs.Prelude.{ℕ, ◌+◌, ◌<◌, ◌≤◌, ◌⊎◌, List, length, map, sum_by, nat_eq, IfSome}
+use Rattle.std.specs.Prelude.{ℕ, ◌+◌, ◌<◌, ◌≤◌, ◌⊎◌, length, map, sum_by, nat_eq, IfSome}
 use Rattle.std.specs.List.{AllByRecursion, IsDistinct}
 use Rattle.mpb_words.specs.Values.{IsCpuWord, IsDeviceWord}
 use Rattle.mpb_script.specs.declared.script.Script.{Script}
-use Rattle.mpb_script.specs.declared.script.CpuScript.{CpuScript}
 
 -- how many words a script has in all
 abbrev pub words_in : Script → ℕ

@@ -17,7 +17,7 @@ use Rattle.mpb_script.specs.declared.script.ScriptFault.TheVariants as fault
 use Rattle.mpb_script.specs.Document.{HasDocument, number_in, number_at, elements}
 use Rattle.mpb_script.specs.Keys.{◌<|>◌, wrong_key}
 use Rattle.mpb_script.specs.Words.{cpu_tables, device_tables, cpu_id, words_of, all_words, many, word_fault, first_some, script_fault_of}
-use Rattle.mpb_script.specs.Script.{Describes, IsScriptOf, HasFault}
+use Rattle.mpb_script.specs.Script.{Describes}
 use Rattle.mpb_script.specs.Steps.{fault_from, wrong_word, wrong_cpu_word, wrong_device_word, wrong_words}
 use Rattle.mpb_script.proofs.ProgramLemmas.{all_ok}
 use Rattle.mpb_script.proofs.WordLemmas.{first_wrong_word}

@@ -1,5 +1,5 @@
 -- What a word says has the values of its kind.
-use Rattle.std.proofs.Common.{◌≡◌, ℕ, ◌<◌, ◌≤◌, ◌^◌, Bool, true, false, cond, ◌&&◌, ◌==◌, List, [], ◌∷◌, length, map, slice_index, Option, Some, None, is_some, Result, Ok, Err, codes, refl, subst, arith, nat_le}
+use Rattle.std.proofs.Common.{◌≡◌, ℕ, ◌≤◌, Bool, true, false, cond, ◌&&◌, ◌==◌, List, [], ◌∷◌, length, map, slice_index, Option, Some, None, is_some, Result, Ok, Err, refl, subst, arith, nat_le}
 use Rattle.std.proofs.lemmas.Bool.{leb-true, le-leb, eqb-true}
 use Rattle.std.specs.List.{list_all}
 use Rattle.mpb_spec.specs.declared.agent.Op.{Op}

@@ -1,7 +1,7 @@
 -- The numbers of a word (this project's own format).
 --     number_of part            the number that a part writes, or none
 --     numbers_of limits parts   the numbers of a word whose places have these greatest values, or why they aren't
-use Rattle.std.specs.Prelude.{ℕ, Bool, true, false, ◌&&◌, ◌==◌, List, [], ◌∷◌, length, drop, slice_index, Option, Some, None, is_some, nat_lt, nat_le, if◌then◌else◌, map, Result, Ok, Err}
+use Rattle.std.specs.Prelude.{ℕ, Bool, true, ◌&&◌, ◌==◌, List, [], ◌∷◌, length, drop, slice_index, Option, Some, None, is_some, nat_lt, nat_le, if◌then◌else◌, map, Result, Ok, Err}
 use Rattle.std.specs.List.{list_all}
 use Rattle.std.specs.Char.{is_digit}
 use Rattle.std.specs.Str.Parse.{digits_value}

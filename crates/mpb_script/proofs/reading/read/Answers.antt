@@ -1,4 +1,4 @@
-use Rattle.std.proofs.Common.{◌≡◌, ◌+◌, ◌≤◌, min, ap, ◌∙◌, inr, arith}
+use Rattle.std.proofs.Common.{◌+◌, ◌≤◌, min, ap, ◌∙◌, inr, arith}
 use Rattle.toml.specs.View.{view}
 use Rattle.mpb_script.specs.Words.{cpu_tables, device_tables}
 use Rattle.mpb_script.specs.Steps.{word_count}

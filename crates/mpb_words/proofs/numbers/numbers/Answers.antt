@@ -1,4 +1,4 @@
-use Rattle.std.proofs.Common.{◌≡◌, ℕ, List, Bor, length, map, sym, ◌∙◌, arith}
+use Rattle.std.proofs.Common.{◌≡◌, ℕ, List, Bor, length, map, arith}
 use Rattle.std.proofs.lemmas.List.{length-map}
 use Rattle.mpb_words.proofs.NumberLemmas.{numbers_of-both}
 use Rattle.mpb_words.proofs.numbers.numbers.Goals as goal
