@@ -106,11 +106,10 @@ impl Latch {
         ensures log { seat.new ≡ record seat.old { log = seat.old.log ++ (p, result) ∷ [] } }
         ensures plan { FollowsPlan seat.new.log seat.new.plan }
     {
-        let found = self.table.shared.fetch_or::<Pulsed>(
-            &mut seat.seat,
-            p.io as usize + 1,
-            1 << p.pin,
-        );
+        let found = self
+            .table
+            .shared
+            .fetch_or::<Pulsed>(&mut seat.seat, p.io as usize + 1, 1 << p.pin);
         let hit = hit_at(found, p.pin);
         let Ok(()) = seat.log.push((p, hit)) else {
             unreachable!()
@@ -138,10 +137,8 @@ impl Latch {
         ensures dry { col.old.dry ≡ true → result ≡ 0 }
         ensures planned { (pin : ℕ) → pin < 24 → slice_index col.new.counts pin ≤ planned col.new.io pin col.new.plans }
     {
-        let found = self
-            .table
-            .shared
-            .swap::<Collected>(&mut col.seat, col.io as usize + 1, 0);
+        let word = col.io as usize + 1;
+        let found = self.table.shared.swap::<Collected>(&mut col.seat, word, 0);
         add_bits_to(&mut col.counts, found as u32);
         found as u32
     }

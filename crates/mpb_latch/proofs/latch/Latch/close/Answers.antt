@@ -26,10 +26,10 @@ settle-requires-clause-all c =
     let seats = c.args.seats.items in
     let cols = c.args.cols.items in (
       (let a = ap (λ ds. length ds) got.devices ∙ length-map seats known_device in
-      let b = ap (λ (l : SharedLatch). length l.plans) c.self.view_is in
-      let n = length-map c.self.inside.table.shared.key.1.value.items (λ p. p.items) in
-      let all = c.requires.devices.0 in
-      omega arith),
+          let b = ap (λ (l : SharedLatch). length l.plans) c.self.view_is in
+          let n = length-map c.self.inside.table.shared.key.1.value.items (λ p. p.items) in
+          let all = c.requires.devices.0 in
+          omega arith),
       ap (λ cs. map (λ x. x.io) cs) got.collectors ∙ map_map (λ x. x.io) known_collector cols ∙ c.requires.collectors.0 ∙ sym (ap (λ (l : SharedLatch). range_with_len 0 l.ios) c.self.view_is),
     )
 

@@ -30,6 +30,7 @@ returns-clause-state c =
     let shown = c.self.view_is in
     let e = same_pins c.self.inside.words c.args.self.now.pins c.self.inside.ios c.args.p.io c.args.p.pin (ap (λ s. s.pins) shown) (let a = c.self.invariant.0 in let b = c.self.invariant.1 in omega arith) c.requires.io c.requires.pin in
     ap (λ (t : List ℕ × ℕ × ℕ). state t.0 t.1 t.2) (λ i. (e i, (shown i).devices, (shown i).ended))
+
 pub returns-clause-pins : goal.returns-clause-pins
 returns-clause-pins c io pin =
     let e = same_pins c.self.inside.words c.args.self.now.pins c.self.inside.ios c.args.p.io c.args.p.pin (ap (λ s. s.pins) c.self.view_is) (let a = c.self.invariant.0 in let b = c.self.invariant.1 in omega arith) c.requires.io c.requires.pin in
