@@ -76,6 +76,7 @@ after_collect n c = record { io = c.io; plans = c.plans; counts = with_pins_from
 abbrev pub after_look : Bool → CollectorView → CollectorView
 after_look b c = record { io = c.io; plans = c.plans; counts = c.counts; swaps = c.swaps; looks = c.looks + 1; full = b; dry = c.dry }
 
+-- a seat: its view, and the slots that it holds, of which there are none
 abbrev Sat : Type 0
 Sat = Me (Unit {0}) SeatView
 

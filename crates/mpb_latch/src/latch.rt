@@ -137,10 +137,8 @@ impl Latch {
         ensures dry { col.old.dry ≡ true → result ≡ 0 }
         ensures planned { (pin : ℕ) → pin < 24 → slice_index col.new.counts pin ≤ planned col.new.io pin col.new.plans }
     {
-        let found = self
-            .table
-            .shared
-            .swap::<Collected>(&mut col.seat, col.io as usize + 1, 0);
+        let word = col.io as usize + 1;
+        let found = self.table.shared.swap::<Collected>(&mut col.seat, word, 0);
         add_bits_to(&mut col.counts, found as u32);
         found as u32
     }
