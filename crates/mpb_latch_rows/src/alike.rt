@@ -31,7 +31,9 @@ fn three_devices_pulse_one_pin(rt: HostRuntime) -> Result<(), Fail> {
         assert!(rt; latch.collect(&mut col) == 0 && !latch.ended(&mut col));
     }
     assert!(rt; plain.pulse(pulse) == Hit::New && latch.pulse(&mut first, pulse) == Hit::New);
-    assert!(rt; plain.pulse(pulse) == Hit::Merged && latch.pulse(&mut second, pulse) == Hit::Merged);
+    assert!(rt;
+        plain.pulse(pulse) == Hit::Merged && latch.pulse(&mut second, pulse) == Hit::Merged
+    );
     assert!(rt; plain.pulse(pulse) == Hit::Merged && latch.pulse(&mut third, pulse) == Hit::Merged);
     // The pin is collected, and then the devices end
     assert!(rt; plain.collect(0) == 2 && latch.collect(&mut col) == 2);

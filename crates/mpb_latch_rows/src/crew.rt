@@ -46,7 +46,12 @@ fn run_devices<R: Threads + Sync>(
     requires { seats.old ≡ map (λ p. fresh_device_seat latch.now.latch p.items) plans.now }
     ensures { All (λ s. (s.latch ≡ latch.now.latch) × (s.ended ≡ true)) seats.new }
 {
-    thread::for_each_mut(rt, seats, 8, &|i, seat| run_device(latch, seat, plans[i].as_slice()));
+    thread::for_each_mut(
+        rt,
+        seats,
+        8,
+        &|i, seat| run_device(latch, seat, plans[i].as_slice()),
+    );
 }
 
 /// Runs each collector in a thread of its own.

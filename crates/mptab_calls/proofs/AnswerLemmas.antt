@@ -1,7 +1,7 @@
 -- What the walk meets at a file is what is due to the form.
 use Rattle.std.proofs.Common.{◌≡◌, ℕ, ◌+◌, ◌≤◌, ◌<◌, ◌^◌, List, [], ◌∷◌, length, map, get_or, Option, Some, None, IfSome, IsSomeAnd, Result, Ok, Err, IfOk, IfErr, refl, sym, ap, subst, ◌∙◌, inl, inr, arith}
 use Rattle.std.specs.Prelude.{option_map}
-use Rattle.mpt_base.specs.Outside.{Files, IsSizeTold, Rose}
+use Rattle.mpt_base.specs.Outside.{Files, IsSizeTold}
 use Rattle.mpt_spec.specs.declared.tables.Tables.{Tables}
 use Rattle.mpt_spec.specs.Table.{Describes}
 use Rattle.mpt_spec.specs.Search.{HasNoPointer}
@@ -16,7 +16,7 @@ use Rattle.mpt_table.specs.Windows.{IfTold}
 use Rattle.mptab_calls.specs.declared.ending.Ending.{Ending}
 use Rattle.mptab_calls.specs.declared.ending.Ending.TheVariants.{Absent, TooLarge, Unread, Refused, NoMemory}
 use Rattle.mptab_calls.specs.Forms.{Form, Show, Audit, Canon, Build, Route, Named, Image, Listing, source_of, files_of, name_of, limit_of, IsRead}
-use Rattle.mptab_calls.specs.Commands.{status_of, GivesTables, IsUnderstood, IsText, IsRefused, IsAnswerTo, IsReadyFor, no_pointer_line, fault_line, bad_line_line, unfit_line}
+use Rattle.mptab_calls.specs.Commands.{status_of, GivesTables, IsRefused, IsAnswerTo, IsReadyFor, no_pointer_line, fault_line, bad_line_line, unfit_line}
 use Rattle.mptab_calls.specs.Walk.{Outside, IsDueOf, AsksOf, most_of}
 use Rattle.mptab_calls.specs.Ending.{ending_status, ending_text, IsEnding, Shelves, shelves}
 use Rattle.mptab_calls.specs.declared.answer.Answer.{Answer}

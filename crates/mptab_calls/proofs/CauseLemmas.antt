@@ -3,7 +3,7 @@ use Rattle.std.proofs.Common.{◌≡◌, ℕ, List, Option, sym, subst, ◌∙�
 use Rattle.mpt_base.specs.Outside.{Files}
 use Rattle.mptab_calls.specs.Forms.{Form, IsForm, IsStill, IsAny}
 use Rattle.mptab_calls.specs.Commands.{IsRefused, IsText}
-use Rattle.mptab_calls.specs.Walk.{Outside, IsDueOf, Answers, AnswersWhole, IsComplete, TellsFailures, AsksAtMost, IsNoForm}
+use Rattle.mptab_calls.specs.Walk.{Outside, IsDueOf, Answers, IsComplete, TellsFailures, AsksAtMost, IsNoForm}
 use Rattle.mptab_calls.specs.Causes.{Cause, Done, Usage, NoFile, CannotRead, CannotWrite, Refused, NoMemory, TooLarge}
 
 -- what is due to a form, in its row

@@ -1,4 +1,3 @@
-use Rattle.mpt_base.specs.Outside.{Files}
 use Rattle.mptab_calls.specs.Forms.{IsAny}
 use Rattle.mptab_calls.specs.Walk.{texts_of, outside}
 use Rattle.mptab_calls.proofs.CauseLemmas.{Answers-cause, Answers-whole, Answers-failures, Answers-any, AsksAtMost-any}

@@ -1,5 +1,5 @@
 use Rattle.std.proofs.Common.{◌≡◌, ◌-◌, length, length-take, length-drop, ◌∙◌, arith}
-use Rattle.mptab_calls.proofs.FileLemmas.{IsFilledTo-piece, IsFilledTo-all}
+use Rattle.mptab_calls.proofs.FileLemmas.{IsFilledTo-piece}
 use Rattle.mptab_calls.proofs.file.fill.Goals as goal
 
 pub loop-at-preserved : goal.loop-at-preserved
