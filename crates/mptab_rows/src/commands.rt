@@ -294,6 +294,33 @@ fn listing_past_its_limit(rt: HostRuntime) -> Result<(), Fail> {
     Ok(())
 }
 
+/// How many bytes of the usual board's image were written, where this put fails, and the status.
+fn bytes_written(alloc: Global, listing: &[u8], failing: u64) -> Result<(usize, u8), Fail> {
+    let mut shelf = MemShelf::new(alloc);
+    shelf.add("list", listing)?;
+    let answer = answer_to(alloc, &["build", "list"], &mut shelf, failing)?;
+    Ok((answer.text.len(), answer.status))
+}
+
+/// A put that fails, and what was written before it: 256 pieces of 4,096 bytes.
+const PIECES: &[(u64, usize, u8)] = &[
+    (1, 0, 5),
+    (2, 4096, 5),
+    (3, 8192, 5),
+    (256, 1_044_480, 5),
+    (257, 1_048_576, 0),
+];
+
+#[test]
+fn pieces_of_an_image(rt: HostRuntime) -> Result<(), Fail> {
+    let listing = usual_listing(rt.alloc(), "")?;
+    for (failing, bytes, status) in PIECES {
+        let written = bytes_written(rt.alloc(), listing.as_slice(), *failing)?;
+        assert!(rt; written == (*bytes, *status));
+    }
+    Ok(())
+}
+
 /// The second put of the image fails: the first piece is there, zero but for the EBDA word.
 #[test]
 fn second_piece_of_an_image_fails(rt: HostRuntime) -> Result<(), Fail> {
@@ -306,13 +333,31 @@ fn second_piece_of_an_image_fails(rt: HostRuntime) -> Result<(), Fail> {
     Ok(())
 }
 
-/// Each command, the file that it reads, and its number of calls of the shelf.
-const READING: &[(&[&str], &str)] = &[
-    (&["show", "image"], "mptab: cannot read image\n"),
-    (&["audit", "image"], "mptab: cannot read image\n"),
-    (&["canon", "image"], "mptab: cannot read image\n"),
-    (&["route", "image", "0000"], "mptab: cannot read image\n"),
-    (&["build", "list"], "mptab: cannot read list\n"),
+/// Sizes of a listing that is none, and the status where the third call of the shelf fails: one piece has
+/// 65,536 bytes.
+const SIZES: &[(usize, u8)] = &[(0, 8), (1, 8), (65_536, 8), (65_537, 4)];
+
+#[test]
+fn pieces_of_a_listing(rt: HostRuntime) -> Result<(), Fail> {
+    for (size, status) in SIZES {
+        let listing = vec![in rt.alloc(); b' '; *size]?;
+        let mut shelf = MemShelf::new(rt.alloc());
+        shelf.add("list", listing.as_slice())?;
+        shelf.fail(3)?;
+        let answer = answer_to(rt.alloc(), &["build", "list"], &mut shelf, 0)?;
+        assert_eq!(rt; answer.status, *status);
+    }
+    Ok(())
+}
+
+/// Each command, the line of a failed read, and its number of calls of the shelf: of an image its size, two
+/// words, the EBDA's area, header and table; of a listing its size and its bytes.
+const READING: &[(&[&str], &str, u64)] = &[
+    (&["show", "image"], "mptab: cannot read image\n", 6),
+    (&["audit", "image"], "mptab: cannot read image\n", 6),
+    (&["canon", "image"], "mptab: cannot read image\n", 6),
+    (&["route", "image", "0000"], "mptab: cannot read image\n", 6),
+    (&["build", "list"], "mptab: cannot read list\n", 2),
 ];
 
 /// The answer of a command over the usual board, where this call of the shelf fails.
@@ -347,10 +392,9 @@ fn failing_calls(alloc: Global, words: &[&str], image: &[u8], line: &str) -> Res
 #[test]
 fn calls_of_the_shelf_by_command(rt: HostRuntime) -> Result<(), Fail> {
     let image = usual_image(rt.alloc(), "")?;
-    for (words, line) in READING {
+    for (words, line, number) in READING {
         let calls = failing_calls(rt.alloc(), words, image.as_slice(), line)?;
-        // Of an image its size, two words, one area, the header and the table; of a listing size and bytes.
-        assert!(rt; calls == 6 || calls == 2);
+        assert_eq!(rt; calls, *number);
     }
     Ok(())
 }
