@@ -3,3 +3,4 @@ pub mod EntryJudgment
 pub mod ExampleLemmas
 pub mod FaultExamples
 pub mod Judgment
+pub mod PutLemmas

@@ -3,7 +3,9 @@
 
 ghost use Rattle.std.specs.Prelude.{◌≡◌, ◌+◌, ◌≤◌, ◌<◌, ◌^◌, ◌↔◌, ◌⊎◌, ℕ, List, ◌++◌, length};
 ghost use Rattle.std.specs.List.{Contains};
-ghost use Rattle.mpt_base.specs.Bytes.{part};
+ghost use Rattle.std.specs.Int.{to_le_bytes, w16, w32, w64};
+ghost use Rattle.mpt_base.specs.Bytes.{number_at, part};
+ghost use Rattle.mpt_base.specs.Writing.{overlay};
 ghost use Rattle.mpt_base.specs.declared.fault.Reason.{Reason};
 ghost use Rattle.mpt_spec.specs.declared.entry.Base.{Base};
 ghost use Rattle.mpt_spec.specs.declared.entry.Ext.{Ext};
@@ -37,6 +39,15 @@ pub fn first_place_is_one()
 /// Sixteen bytes are one floating pointer.
 pub fn pointer_of_bytes_is_one()
     ensures { (p q : Pointer) (bytes : List ℕ) → IsFloatingPointer p bytes → IsFloatingPointer q bytes → p ≡ q }
+{}
+
+/// A number that is put low byte first into bytes is the number there, and all other bytes stay.
+pub fn put_number_is_there()
+    ensures two { (n : ℕ) (bytes : List ℕ) (at : ℕ) → n < 2 ^ 16 → at + 2 ≤ length bytes → number_at 2 (overlay bytes at (to_le_bytes w16 n)) at ≡ n }
+    ensures four { (n : ℕ) (bytes : List ℕ) (at : ℕ) → n < 2 ^ 32 → at + 4 ≤ length bytes → number_at 4 (overlay bytes at (to_le_bytes w32 n)) at ≡ n }
+    ensures eight { (n : ℕ) (bytes : List ℕ) (at : ℕ) → n < 2 ^ 64 → at + 8 ≤ length bytes → number_at 8 (overlay bytes at (to_le_bytes w64 n)) at ≡ n }
+    ensures before { (piece bytes : List ℕ) (at i n : ℕ) → at + length piece ≤ length bytes → i + n ≤ at → part (overlay bytes at piece) i n ≡ part bytes i n }
+    ensures behind { (piece bytes : List ℕ) (at i n : ℕ) → at + length piece ≤ length bytes → at + length piece ≤ i → part (overlay bytes at piece) i n ≡ part bytes i n }
 {}
 
 /// The bytes that are written for an entry are that entry, wherever they stand.

@@ -54,9 +54,8 @@ fn a_usual_block_does_not_meet_the_pointer(rt: HostRuntime) {
         };
         let tables = listed(at, 0x000F_0010, base, Vec::new(rt.alloc()));
         assert_eq!(rt; fits(&tables), want, "the pointer at {at}");
-        if well_formed(&tables) {
-            assert_eq!(rt; block_bytes(&tables), 260);
-        }
+        assert!(rt; well_formed(&tables));
+        assert_eq!(rt; block_bytes(&tables), 260);
     }
 }
 
@@ -73,7 +72,9 @@ fn defaults_are_1_to_7_at_any_address(rt: HostRuntime) {
         let tables = default(number, at, address);
         assert_eq!(rt; fits(&tables), want, "default {number} at {at}");
     }
-    assert_eq!(rt; block_bytes(&default(5, 0x500, 0)), 0);
+    let tables = default(5, 0x500, 0);
+    assert!(rt; well_formed(&tables));
+    assert_eq!(rt; block_bytes(&tables), 0);
 }
 
 // A revision of 1, a table under the number of a default, and a default without its number.

@@ -134,6 +134,7 @@ fn writes_an_image_of_a_default_configuration(rt: HostRuntime) {
     let Some(Ok(image)) = image_of(rt.alloc(), &tables) else {
         panic!(rt; "no image");
     };
+    assert_eq!(rt; image.len(), 0x10_0000);
     let (low, high) = image.as_slice().split_at(0x9_FC00);
     assert_eq!(rt; (low[0x40E], low[0x40F]), (0xC0, 0x9F));
     assert_eq!(rt;
