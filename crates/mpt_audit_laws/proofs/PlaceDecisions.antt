@@ -1,6 +1,7 @@
 -- Whether a decided sentence holds at a place of a list, anywhere in it, and where first.
-use Rattle.std.proofs.Common.{◌≡◌, ℕ, zero, suc, ◌+◌, ◌<◌, ◌⊎◌, List, length, Option, Some, None, refl, sym, subst, ◌∙◌, inl, inr, arith}
+use Rattle.std.proofs.Common.{◌≡◌, ℕ, zero, suc, ◌+◌, ◌<◌, ◌≤◌, ◌⊎◌, List, length, Option, Some, None, refl, sym, subst, ◌∙◌, inl, inr, arith}
 use Rattle.std.specs.Prelude.{slice_get}
+use Rattle.std.proofs.lemmas.Bool.{cases_lt}
 use Rattle.std.proofs.lemmas.Option.{slice_get_within, none-some, same_Some}
 use Rattle.mpt_laws.proofs.EntryJudgment.{Decided}
 use Rattle.mpt_rules.specs.Places.{HoldsAt, HoldsNowhere, IsFirstOf, IsFirstBefore, nowhere}
@@ -27,7 +28,11 @@ module _ {E : Type 0} (P : E → Type 0) (decide : (e : E) → Decided (P e)) (e
   first_before (suc i) = by_parts (first_before i) (holds_at i)
     where
       split : (k : ℕ) → k < suc i → (k < i) ⊎ (k ≡ i)
-      split k l = grind arith
+      split k l = by_order (cases_lt k i)
+        where
+          by_order : (k < i) ⊎ (i ≤ k) → (k < i) ⊎ (k ≡ i)
+          by_order (inl lt) = inl lt
+          by_order (inr le) = inr (omega (arith, le, l))
 
       here : ((k : ℕ) → k < i → ¬ HoldsAt P es k) → ¬ HoldsAt P es i → (k : ℕ) → HoldsAt P es k → (k < i) ⊎ (k ≡ i) → ⊥
       here none n k h (inl l) = none k l h

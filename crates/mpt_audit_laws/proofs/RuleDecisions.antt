@@ -145,5 +145,5 @@ ext_found bases es on_ext.BusLoop e i = alone_found (bus_loop es e)
 
 pub rule_found : (p : Pointer) (t : Table) (r : Rule) (i : ℕ) → IsFound (BreaksRule p t r i)
 rule_found p t (rule.Table r) i = table_found i (table_rule p t r) (decided-eq i nowhere)
-rule_found p t (rule.Base r) i = entry_found (λ e j. BreaksBaseRule t.base r e i j) t.base i (λ e. base_found t.base r e i)
-rule_found p t (rule.Ext r) i = entry_found (λ e j. BreaksExtRule t.base t.ext r e i j) t.ext i (λ e. ext_found t.base t.ext r e i)
+rule_found p t (rule.Base r) i = entry_found {E = Base} (λ e j. BreaksBaseRule t.base r e i j) t.base i (λ e. base_found t.base r e i)
+rule_found p t (rule.Ext r) i = entry_found {E = Ext} (λ e j. BreaksExtRule t.base t.ext r e i j) t.ext i (λ e. ext_found t.base t.ext r e i)

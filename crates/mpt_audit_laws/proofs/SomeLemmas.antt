@@ -24,40 +24,42 @@ use Rattle.mpt_audit_laws.proofs.RuleDecisions.{clear_pointer_bits, rule_found}
 
 -- a place above each at which the rule is asked
 abbrev places_end : Table → Rule → ℕ
-places_end t (rule.Table r) = nowhere + 1
+places_end t (rule.Table r) = 65536
 places_end t (rule.Base r) = length t.base
 places_end t (rule.Ext r) = length t.ext
 
 below_end : (t : Table) (r : Rule) (i : ℕ) → IsPlaceOf t r i → i < places_end t r
-below_end t (rule.Table r) i h = omega (arith, h)
+below_end t (rule.Table r) i h = let here : i ≡ 65535 = h in omega (arith, here)
 below_end t (rule.Base r) i h = h
 below_end t (rule.Ext r) i h = h
 
-module _ (p : Pointer) (t : Table) where
-  -- the findings so far, whatever they are
-  abbrev HaveFindingsBefore : ℕ → ℕ → Type 0
-  HaveFindingsBefore n i = (fs : List Finding) × AreFindingsBefore p t n i fs
+-- there are findings so far
+abbrev HaveFindingsBefore : Pointer → Table → ℕ → ℕ → Type 0
+HaveFindingsBefore p t n i = (fs : List Finding) × AreFindingsBefore p t n i fs
 
-  one_place : (n i : ℕ) (r : Rule) → slice_get rules n ≡ Some r → IsFound (BreaksRule p t r i) → HaveFindingsBefore n i → HaveFindingsBefore n (i + 1)
+module _ (p : Pointer) (t : Table) where
+  one_place : (n i : ℕ) (r : Rule) → slice_get rules n ≡ Some r → IsFound (BreaksRule p t r i) → HaveFindingsBefore p t n i → HaveFindingsBefore p t n (i + 1)
   one_place n i r at (inl b) (fs, h) = (fs ++ finding_at n i b.0 ∷ [], found p t n i b.0 r fs at b.1 h)
   one_place n i r at (inr none) (fs, h) = (fs, passed p t n i (i + 1) r fs at (omega arith) (λ m j low high b. none j (here m j low high b)) h)
     where
       here : (m j : ℕ) → i ≤ m → m < i + 1 → BreaksRule p t r m j → BreaksRule p t r i j
       here m j low high b = let same : m ≡ i = omega (arith, low, high) in subst (λ (k : ℕ). BreaksRule p t r k j) same b
 
-  places : (n : ℕ) (r : Rule) → slice_get rules n ≡ Some r → (to : ℕ) → HaveFindingsBefore n 0 → HaveFindingsBefore n to
+  places : (n : ℕ) (r : Rule) → slice_get rules n ≡ Some r → (to : ℕ) → HaveFindingsBefore p t n 0 → HaveFindingsBefore p t n to
   places n r at zero h = h
-  places n r at (suc i) h = let e : i + 1 ≡ suc i = omega arith in subst (HaveFindingsBefore n) e (one_place n i r at (rule_found p t r i) (places n r at i h))
+  places n r at (suc i) h = let e : i + 1 ≡ suc i = omega arith in subst (HaveFindingsBefore p t n) e (one_place n i r at (rule_found p t r i) (places n r at i h))
 
-  one_rule : (n : ℕ) (r : Rule) → slice_get rules n ≡ Some r → HaveFindingsBefore n 0 → HaveFindingsBefore (n + 1) 0
+  one_rule : (n : ℕ) (r : Rule) → slice_get rules n ≡ Some r → HaveFindingsBefore p t n 0 → HaveFindingsBefore p t (n + 1) 0
   one_rule n r at h = let all = places n r at (places_end t r) h in (all.0, next p t n (places_end t r) r all.0 at (λ m j b. below_end t r m (broken_place p t r m j b)) all.1)
 
-  all_rules : (n : ℕ) → n ≤ 24 → HaveFindingsBefore n 0
+  all_rules : (n : ℕ) → n ≤ 24 → HaveFindingsBefore p t n 0
   all_rules zero l = ([], start p t)
   all_rules (suc n) l =
+      let low : n < 24 = omega (arith, l) in
       let e : n + 1 ≡ suc n = omega arith in
-      let before = all_rules n (omega (arith, l)) in
-      subst (λ (k : ℕ). HaveFindingsBefore k 0) e (one_rule n (get_or rules n (rule.Table on_table.NoBootProcessor)) (slice_get-get_or rules n (rule.Table on_table.NoBootProcessor) (omega (arith, l))) before)
+      let r = get_or rules n (rule.Table on_table.NoBootProcessor) in
+      let at : slice_get rules n ≡ Some r = slice_get-get_or rules n (rule.Table on_table.NoBootProcessor) low in
+      subst (λ (k : ℕ). HaveFindingsBefore p t k 0) e (one_rule n r at (all_rules n (omega (arith, l))))
 
   table_findings : (fs : List Finding) × ListsInOrder (IsTableFinding p t) fs
   table_findings = let all = all_rules 24 (omega arith) in (all.0, whole p t all.0 all.1)

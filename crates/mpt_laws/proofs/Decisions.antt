@@ -2,7 +2,7 @@
 use Rattle.std.proofs.Common.{◌≡◌, ℕ, ◌<◌, ◌≤◌, ◌⊎◌, List, [], ◌∷◌, inl, inr, arith}
 use Rattle.std.specs.List.{Contains}
 use Rattle.std.proofs.lemmas.Bool.{cases_lt}
-use Rattle.std.proofs.lemmas.List.Elements.{Contains-push, Contains-push_cases, Contains-append_left, Contains-append_right, Contains-append_cases}
+use Rattle.std.proofs.lemmas.List.Elements.{Contains-push_cases, Contains-append_right, Contains-append_cases}
 use Rattle.mpt_laws.proofs.EntryJudgment.{Decided}
 
 pub never : Decided ⊥
@@ -58,8 +58,12 @@ pub contained : {X : Type 0} → ((x y : X) → Decided (x ≡ y)) → (xs : Lis
 contained d [] y = inr (λ c. omega (arith, c.1))
 contained {X} d (x ∷ xs) y = by_head (d x y) (contained d xs y)
   where
+    not_first : ¬ (x ≡ y) → Contains [] y ⊎ (x ≡ y) → ⊥
+    not_first n (inl c) = omega (arith, c.1)
+    not_first n (inr e) = n e
+
     by_place : ¬ (x ≡ y) → ¬ Contains xs y → Contains (x ∷ []) y ⊎ Contains xs y → ⊥
-    by_place n m (inl c) = neither (λ none. omega (arith, none.1)) n (Contains-push_cases [] x y c)
+    by_place n m (inl c) = not_first n (Contains-push_cases [] x y c)
     by_place n m (inr c) = m c
 
     by_head : Decided (x ≡ y) → Decided (Contains xs y) → Decided (Contains (x ∷ xs) y)
