@@ -1,5 +1,6 @@
 pub mod PlaceLemmas
 pub mod EntryJudgment
+pub mod Decisions
 pub mod ExampleLemmas
 pub mod FaultExamples
 pub mod Judgment

@@ -16,12 +16,11 @@ use Rattle.mpt_parse.proofs.Unique.{bad_line_is_one, listing_is_not_bad, listing
 use Rattle.mpt_listing_laws.proofs.Complete.{every_text}
 use Rattle.mpt_route.specs.Platform.{platform_of}
 use Rattle.mpt_route.specs.Routes.{routes_of}
-use Rattle.mpt_rules.specs.declared.rule.Finding.{Finding}
-use Rattle.mpt_audit.specs.Findings.{AreFindingsOf}
 use Rattle.mpt_answers.specs.Elcr.{elcr_of}
 use Rattle.mpt_answers.specs.RouteLines.{routes_text}
 use Rattle.mpt_answers.specs.FindingLines.{findings_text}
 use Rattle.mpt_audit.proofs.OneLemmas.{findings-one}
+use Rattle.mpt_audit_laws.proofs.SomeLemmas.{findings-some}
 use Rattle.mptab_laws.proofs.FitLaws.{fits_decided}
 use Rattle.mpt_spec.proofs.SearchLemmas.{IsFirst-some}
 use Rattle.mpt_spec.proofs.TableLemmas.{Describes-unique}
@@ -188,21 +187,17 @@ answer_to_one (Canon name) tables s u t v one (inr a) (inr b) = (a.0 ∙ sym b.0
 answer_to_one (Build name) tables s u t v one a b = (a.0 ∙ sym b.0, a.1 ∙ sym b.1)
 answer_to_one (Route name elcr) tables s u t v one a b = (a.0 ∙ sym b.0, a.1 ∙ sym b.1)
 
--- well formed tables have findings
-findings_some : (tables : Tables) → IsWellFormed tables → (fs : List Finding) × AreFindingsOf tables fs
-findings_some tables well = ?
-
 -- and give it one
-answer_to_some : (form : Form) (tables : Tables) → IsWellFormed tables → (s : ℕ) × (t : List ℕ) × IsAnswerTo form tables s t
-answer_to_some (Show name) tables well = (0, listing_of tables, (refl, refl))
-answer_to_some (Audit name) tables well = let found = findings_some tables well in (status_of found.0, findings_text found.0, (found.0, found.1, refl, refl))
-answer_to_some (Canon name) tables well = by_fit (fits_decided tables)
+answer_to_some : (form : Form) (tables : Tables) → (s : ℕ) × (t : List ℕ) × IsAnswerTo form tables s t
+answer_to_some (Show name) tables = (0, listing_of tables, (refl, refl))
+answer_to_some (Audit name) tables = let found = findings-some tables in (status_of found.0, findings_text found.0, (found.0, found.1, refl, refl))
+answer_to_some (Canon name) tables = by_fit (fits_decided tables)
   where
     by_fit : Decided (FitsInImage tables) → (s : ℕ) × (t : List ℕ) × IsAnswerTo (Canon name) tables s t
     by_fit (inl fitting) = (0, image_of (canonical_of tables), inl (refl, fitting, refl))
     by_fit (inr unfit) = (8, unfit_line (block_size tables.body), inr (refl, unfit, refl))
-answer_to_some (Build name) tables well = (0, image_of tables, (refl, refl))
-answer_to_some (Route name elcr) tables well = (0, routes_text (routes_of (platform_of tables) elcr), (refl, refl))
+answer_to_some (Build name) tables = (0, image_of tables, (refl, refl))
+answer_to_some (Route name elcr) tables = (0, routes_text (routes_of (platform_of tables) elcr), (refl, refl))
 
 pub text_one : (files : Files) (form : Form) (s u : ℕ) (t v : List ℕ) → HasOneText form → IsText (Some files) form s t → IsText (Some files) form u v → (s ≡ u) × (t ≡ v)
 text_one files form s u t v one a b =
@@ -213,7 +208,7 @@ pub text_given : (files : Files) (form : Form) → AreBytesTold files → AllByR
 text_given files form bytes all =
     let tables = all.0.0 in
     let good = gives_good files (source_of form) tables bytes all.0.1 in
-    let answer = answer_to_some form tables good.0 in
+    let answer = answer_to_some form tables in
     (answer.0, answer.1, (tables, good.0, good.1, all.0.1, answer.2))
 
 -- the first byte of the first word tells the forms apart

@@ -1,0 +1,4 @@
+pub mod PlaceDecisions
+pub mod EntryDecisions
+pub mod RuleDecisions
+pub mod SomeLemmas
