@@ -46,7 +46,8 @@ fn meets(a: &Range, b: &Option<Range>) -> bool
     ensures { IsTrue result ↔ HasRangeMet a.now b.now }
 {
     match b {
-        Some(b) => a.kind == b.kind && b.first <= a.last && a.first <= b.last,
+        // what tells most ranges apart comes first: this is asked of all pairs
+        Some(b) => a.first <= b.last && b.first <= a.last && a.kind == b.kind,
         None => false,
     }
 }
