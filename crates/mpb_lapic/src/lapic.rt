@@ -1,0 +1,141 @@
+//! The interrupt part of a local APIC (Intel SDM volume 3, sections 10.8.3 to 10.8.5): vectors
+//! requested (IRR), in service (ISR) and level-triggered (TMR), and the task priority (TPR).
+
+ghost use Rattle.std.specs.Prelude.{◌≡◌};
+ghost use Rattle.mpb_spec.specs.LocalApic.{reset, ppr, next_vector, acceptance, accepted, taken, ended, after_end};
+ghost use Rattle.mpb_spec.specs.Numbers.{has};
+
+use crate::vectors::Vectors;
+use mpb_spec::Accept;
+use std::marker::Model;
+
+/// A local APIC. Contracts see its three sets of vectors as strictly ascending lists.
+#[derive(Drop)]
+pub struct Lapic {
+    irr: Vectors,
+    isr: Vectors,
+    tmr: Vectors,
+    tpr: u8,
+}
+
+impl Model for Lapic {
+    ghost use Rattle.mpb_spec.specs.LocalApic.{LocalApic};
+
+    ghost Value = { LocalApic };
+
+    ghost view = { λ a. record { irr = a.irr; isr = a.isr; tmr = a.tmr; tpr = a.tpr } };
+}
+
+impl Lapic {
+    /// A local APIC after a reset: all sets are empty, and the task priority is 0.
+    pub fn new() -> Lapic
+        ensures state { result ≡ reset }
+    {
+        Lapic {
+            irr: Vectors::none(),
+            isr: Vectors::none(),
+            tmr: Vectors::none(),
+            tpr: 0,
+        }
+    }
+
+    /// Accepts a fixed interrupt: its vector is requested, and its TMR bit set for level and cleared
+    /// for edge. `Illegal` below 16, with no change; `Merged` where it was requested already.
+    pub fn accept(&mut self, vector: u8, level: bool) -> Accept
+        ensures answer { result ≡ acceptance vector self.old }
+        ensures state { self.new ≡ accepted vector level self.old }
+    {
+        if vector < 16 {
+            return Accept::Illegal;
+        }
+        if level {
+            self.tmr.put(vector);
+        } else {
+            self.tmr.take(vector);
+        }
+        if self.irr.put(vector) {
+            Accept::Set
+        } else {
+            Accept::Merged
+        }
+    }
+
+    /// The processor priority: the task priority, or the class of the greatest vector in service
+    /// times 16 where that class is above the task's. A class is a sixteenth of a vector.
+    pub fn ppr(&self) -> u8
+        ensures priority { result ≡ ppr self.now }
+    {
+        match self.isr.top() {
+            Some(top) if top / 16 > self.tpr / 16 => top / 16 * 16,
+            _ => self.tpr,
+        }
+    }
+
+    /// The vector that `take` would take: the greatest that is requested, where its class is above
+    /// the processor priority's. None exactly where there is none such.
+    pub fn next(&self) -> Option<u8>
+        ensures answer { result ≡ next_vector self.now }
+    {
+        match self.irr.top() {
+            Some(top) if top / 16 > self.ppr() / 16 => Some(top),
+            _ => None,
+        }
+    }
+
+    /// Takes the next vector from IRR into service; where there is none, nothing changes.
+    pub fn take(&mut self) -> Option<u8>
+        ensures answer { result ≡ next_vector self.old }
+        ensures state { self.new ≡ taken self.old }
+    {
+        let vector = self.next()?;
+        self.irr.take(vector);
+        self.isr.put(vector);
+        Some(vector)
+    }
+
+    /// Ends the service of the greatest vector in ISR: the vector, and whether it is level-triggered.
+    /// None exactly where ISR is empty, with no change.
+    pub fn eoi(&mut self) -> Option<(u8, bool)>
+        ensures answer { result ≡ ended self.old }
+        ensures state { self.new ≡ after_end self.old }
+    {
+        let vector = self.isr.top()?;
+        self.isr.take(vector);
+        Some((vector, self.tmr.has(vector)))
+    }
+
+    /// Sets the task priority.
+    pub fn set_tpr(&mut self, tpr: u8)
+        ensures state { self.new ≡ record self.old { tpr = tpr } }
+    {
+        self.tpr = tpr;
+    }
+
+    /// The task priority.
+    pub fn tpr(&self) -> u8
+        ensures priority { result ≡ self.now.tpr }
+    {
+        self.tpr
+    }
+
+    /// Whether the vector is requested.
+    pub fn irr(&self, v: u8) -> bool
+        ensures member { result ≡ has v self.now.irr }
+    {
+        self.irr.has(v)
+    }
+
+    /// Whether the vector is in service.
+    pub fn isr(&self, v: u8) -> bool
+        ensures member { result ≡ has v self.now.isr }
+    {
+        self.isr.has(v)
+    }
+
+    /// Whether the vector's last interrupt was level-triggered.
+    pub fn tmr(&self, v: u8) -> bool
+        ensures member { result ≡ has v self.now.tmr }
+    {
+        self.tmr.has(v)
+    }
+}

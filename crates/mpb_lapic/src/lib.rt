@@ -1,0 +1,9 @@
+//! A local APIC: which fixed interrupts it takes, in which order, and how their service ends
+//! (Intel SDM volume 3, sections 10.8.3 to 10.8.5). It takes no memory.
+#![tactic(auto)]
+
+mod lapic;
+mod vectors;
+
+pub use lapic::Lapic;
+pub use mpb_spec::Accept;

@@ -1,0 +1,14 @@
+pub mod Numbers
+pub mod LocalApic
+pub mod IoApic
+pub mod State
+pub mod Delivery
+pub mod Steps
+pub mod Outcomes
+pub mod May
+pub mod Asks
+pub mod Plan
+pub mod Configs
+pub mod Journal
+pub mod Requests
+pub mod Room

@@ -1,0 +1,75 @@
+//! What the calls of the two APICs take and answer.
+
+/// What became of a fixed interrupt at a local APIC.
+#[derive(Clone, Copy, PartialEq)]
+pub enum Accept {
+    /// It is requested, and wasn't before.
+    Set,
+    /// It was requested already.
+    Merged,
+    /// Its vector is below 16.
+    Illegal,
+}
+
+/// What a write or a level did to a pin's pending send.
+#[derive(Clone, Copy, PartialEq)]
+pub enum Effect {
+    /// The pin is due, or not, as before.
+    Plain,
+    /// The pin became due.
+    Due,
+    /// The pin is no longer due.
+    Withdrawn,
+}
+
+/// The message of a pin.
+#[derive(Clone, Copy, PartialEq)]
+pub struct Message {
+    /// The pin, below 24.
+    pub pin: u8,
+    /// Bits 59:56 of the entry: a local APIC id, or 15 for all.
+    pub dest: u8,
+    /// Bit 11: a logical destination.
+    pub logical: bool,
+    /// Bits 10:8: the delivery mode.
+    pub mode: u8,
+    /// Bits 7:0.
+    pub vector: u8,
+    /// Whether the pin is a level pin.
+    pub level: bool,
+}
+
+/// The pins at which a collection made a message due, and those at which it joined one, bit n for pin n.
+#[derive(Clone, Copy, PartialEq)]
+pub struct Collected {
+    pub due: u32,
+    pub joined: u32,
+}
+
+/// One pin of an I/O APIC: the two halves of its entry, its line, and its delivery.
+#[derive(Clone, Copy)]
+pub struct Pin {
+    /// Bits 31:0 of the entry, without the delivery status (bit 12) and remote IRR (bit 14).
+    pub low: u32,
+    /// Bits 63:32 of the entry.
+    pub high: u32,
+    /// Whether the line is asserted.
+    pub line: bool,
+    /// Whether a message is due.
+    pub due: bool,
+    /// Remote IRR: a level message was accepted, and its end of interrupt hasn't come.
+    pub remote: bool,
+}
+
+/// What is delivered to processors.
+#[derive(Clone, Copy)]
+pub enum Delivery {
+    /// A vector, and whether it is level-triggered.
+    Fixed(u8, bool),
+    Nmi,
+    /// SMI or ExtINT.
+    Pass,
+    Init,
+    /// A STARTUP, with the page.
+    Startup(u8),
+}
