@@ -3,10 +3,10 @@
 #![tactic(auto)]
 
 mod board;
-mod room;
+mod bound;
 
 pub use board::Board;
+pub use bound::room;
 pub use mpb_spec::{
     Agent, BoardError, Config, CpuConfig, DevWord, Entry, Imcr, Life, Offer, Op, Outcome, What,
 };
-pub use room::room;

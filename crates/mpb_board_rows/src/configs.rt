@@ -64,14 +64,53 @@ fn parts_are_a_config_or_none(rt: HostRuntime) -> Result<(), Fail> {
     };
     let cases = [
         (good, true, "as it should be"),
-        (Parts { boot_len: 2, ..good }, true, "the selection is a script's"),
+        (
+            Parts {
+                boot_len: 2,
+                ..good
+            },
+            true,
+            "the selection is a script's",
+        ),
         (Parts { page: 0x9E, ..good }, false, "another page"),
         (Parts { boot: 2, ..good }, false, "no boot processor"),
-        (Parts { boot_len: 1, ..good }, false, "a STARTUP in a script"),
-        (Parts { boot_len: 4, ..good }, false, "a take in a boot program"),
-        (Parts { boot_len: 5, ..good }, false, "a boot program that is too long"),
-        (Parts { second: 0, ..good }, false, "two processors of one id"),
-        (Parts { second: 255, ..good }, false, "a wide id"),
+        (
+            Parts {
+                boot_len: 1,
+                ..good
+            },
+            false,
+            "a STARTUP in a script",
+        ),
+        (
+            Parts {
+                boot_len: 4,
+                ..good
+            },
+            false,
+            "a take in a boot program",
+        ),
+        (
+            Parts {
+                boot_len: 5,
+                ..good
+            },
+            false,
+            "a boot program that is too long",
+        ),
+        (
+            Parts { second: 0, ..good },
+            false,
+            "two processors of one id",
+        ),
+        (
+            Parts {
+                second: 255,
+                ..good
+            },
+            false,
+            "a wide id",
+        ),
         (Parts { place: 1, ..good }, false, "no such I/O APIC"),
         (Parts { pin: 24, ..good }, false, "no such pin"),
     ];

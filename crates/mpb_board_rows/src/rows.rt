@@ -60,7 +60,9 @@ pub fn makes(board: &mut Board, row: &Row) -> Result<bool, NoMemory> {
         return Ok(false);
     }
     let entry = board.step(row.agent, row.offer)?;
-    Ok(entry.agent == row.agent
-        && entry.op == row.op
-        && entry.outcomes.as_slice() == [row.outcome].as_slice())
+    Ok(
+        entry.agent == row.agent
+            && entry.op == row.op
+            && entry.outcomes.as_slice() == [row.outcome].as_slice(),
+    )
 }

@@ -1,6 +1,6 @@
 use Rattle.std.proofs.Common.{◌≡◌, ◌≤◌, count_by, take}
 use Rattle.mpb_spec.specs.Room.{is_pulse, is_high}
-use Rattle.mpb_board.proofs.room.of_words.Given as goal
+use Rattle.mpb_board.proofs.bound.of_words.Given as goal
 
 abbrev pub invariant-loop-word : goal.invariant-loop-word
 invariant-loop-word l = record {

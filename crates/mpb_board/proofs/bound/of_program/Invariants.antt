@@ -1,6 +1,6 @@
 use Rattle.std.proofs.Common.{◌≡◌, ◌≤◌, count_by, take}
 use Rattle.mpb_spec.specs.Room.{is_write, is_eoi}
-use Rattle.mpb_board.proofs.room.of_program.Given as goal
+use Rattle.mpb_board.proofs.bound.of_program.Given as goal
 
 abbrev pub invariant-loop-op : goal.invariant-loop-op
 invariant-loop-op l = record {

@@ -1,7 +1,7 @@
 use Rattle.std.proofs.Common.{◌≡◌, ◌≤◌, ◌+◌, length, count_by, map, sum_by, take}
 use Rattle.mpb_spec.specs.Plan.{device_program}
 use Rattle.mpb_spec.specs.Room.{is_pulse, is_high}
-use Rattle.mpb_board.proofs.room.of_devices.Given as goal
+use Rattle.mpb_board.proofs.bound.of_devices.Given as goal
 
 abbrev pub invariant-loop-words : goal.invariant-loop-words
 invariant-loop-words l = record {

@@ -1,6 +1,6 @@
 use Rattle.std.proofs.Common.{◌≡◌, ◌≤◌, length, count_by, sum_by, take}
 use Rattle.mpb_spec.specs.Room.{is_write, is_eoi}
-use Rattle.mpb_board.proofs.room.of_cpus.Given as goal
+use Rattle.mpb_board.proofs.bound.of_cpus.Given as goal
 
 abbrev pub invariant-loop-cpu : goal.invariant-loop-cpu
 invariant-loop-cpu l = record {
