@@ -1,5 +1,5 @@
 -- Pins by their numbers, masks by their bits.
-use Rattle.std.proofs.Common.{◌≡◌, ◌≢◌, ◌==◌, ℕ, zero, suc, ◌+◌, ◌-◌, ◌*◌, ◌/◌, ◌%◌, ◌<◌, Bool, true, false, not, ◌&&◌, ◌||◌, cond, List, [], ◌∷◌, Option, Some, None, option_map, slice_get, take, nat_lt, refl, sym, ap, ◌∙◌, subst, arith}
+use Rattle.std.proofs.Common.{◌≡◌, ◌≢◌, ◌==◌, ℕ, zero, suc, ◌+◌, ◌-◌, ◌*◌, ◌/◌, ◌%◌, ◌<◌, Bool, true, false, not, ◌&&◌, ◌||◌, cond, List, [], ◌∷◌, Some, None, option_map, slice_get, take, nat_lt, refl, sym, ap, ◌∙◌, subst, arith}
 use Rattle.std.specs.List.{AllByRecursion}
 use Rattle.std.specs.Int.{bit_at}
 use Rattle.std.proofs.lemmas.Bool.{and_parts, and_from, and_right, or_right, not_from_false, eq-eqb, eqb-true, ltb-true, cond-true, cond-false}
@@ -109,14 +109,14 @@ record IsDueFrom (k : ℕ) (m : Message) (pins : List Pin) : Type 0 where
 
 due-from : (k : ℕ) (pins : List Pin) (m : Message) → next_due_from k pins ≡ Some m → IsDueFrom k m pins
 due-from k [] m e = cc
-due-from k (p ∷ ps) m e = go p.due refl e where
-  go : (b : Bool) → p.due ≡ b → cond b (Some (message_of k p)) (next_due_from (k + 1) ps) ≡ Some m → IsDueFrom k m (p ∷ ps)
-  go true w e =
+due-from k (p ∷ ps) m e = go p.due refl e (due-from (k + 1) ps m) where
+  go : (b : Bool) → p.due ≡ b → cond b (Some (message_of k p)) (next_due_from (k + 1) ps) ≡ Some m → (next_due_from (k + 1) ps ≡ Some m → IsDueFrom (k + 1) m ps) → IsDueFrom k m (p ∷ ps)
+  go true w e rest =
       let is : message_of k p ≡ m = cc in
       let number : m.pin ≡ k = ap (λ (x : Message). x.pin) (sym is) in
       record { index = 0; pin = p; number = omega (arith, number); here = refl; due = w; message = sym is ∙ ap (λ n. message_of n p) (sym number); none_before = tt }
-  go false w e =
-      let h = due-from (k + 1) ps m e in
+  go false w e rest =
+      let h = rest e in
       record { index = suc h.index; pin = h.pin; number = omega (arith, h.number); here = h.here; due = h.due; message = h.message; none_before = (w, h.none_before) }
 
 pub next_due-some : (pins : List Pin) (m : Message) → next_due_from 0 pins ≡ Some m → IsDueLeast m pins
@@ -133,10 +133,10 @@ next_due-some pins m e =
 
 none-from : (k : ℕ) (pins : List Pin) → next_due_from k pins ≡ None → AllByRecursion (λ p. p.due ≡ false) pins
 none-from k [] e = tt
-none-from k (p ∷ ps) e = go p.due refl e where
-  go : (b : Bool) → p.due ≡ b → cond b (Some (message_of k p)) (next_due_from (k + 1) ps) ≡ None → AllByRecursion (λ p. p.due ≡ false) (p ∷ ps)
-  go true w e = cc
-  go false w e = (w, none-from (k + 1) ps e)
+none-from k (p ∷ ps) e = go p.due refl e (none-from (k + 1) ps) where
+  go : (b : Bool) → p.due ≡ b → cond b (Some (message_of k p)) (next_due_from (k + 1) ps) ≡ None → (next_due_from (k + 1) ps ≡ None → AllByRecursion (λ p. p.due ≡ false) ps) → AllByRecursion (λ p. p.due ≡ false) (p ∷ ps)
+  go true w e rest = cc
+  go false w e rest = (w, rest e)
 
 pub next_due-none : (pins : List Pin) → next_due_from 0 pins ≡ None → AllByRecursion (λ p. p.due ≡ false) pins
 next_due-none pins e = none-from 0 pins e
@@ -201,3 +201,15 @@ cleared p level = go p.remote refl where
   go false w =
       let fails : (is_level p && ((vector_of p == vector_of p) && p.remote)) ≡ false = and_right (is_level p) ((vector_of p == vector_of p) && p.remote) (and_right (vector_of p == vector_of p) p.remote w) in
       ap (λ (x : Pin). x.remote) (cond-false (is_level p && ((vector_of p == vector_of p) && p.remote)) (record p { remote = false; due = p.line && not (is_masked p) }) p fails) ∙ w
+
+-- a write of a low half
+and_true : (a b : Bool) → b ≡ true → (a && b) ≡ a
+and_true true true e = refl
+and_true false true e = refl
+and_true a false e = cc
+
+pub low-edge : (p : Pin) (value : ℕ) → is_level (with_low value p) ≡ false → (with_low value p).remote ≡ false
+low-edge p value e = and_right p.remote (is_level (with_low value p)) e
+
+pub low-level : (p : Pin) (value : ℕ) → is_level (with_low value p) ≡ true → (with_low value p).remote ≡ p.remote
+low-level p value e = and_true p.remote (is_level (with_low value p)) e

@@ -59,3 +59,11 @@ pub fn asserted_level_pin_is_due_again()
     ensures not_before { (p : APin) (is_high : Bool) → p.line ≡ true → (with_line is_high (with_sent true p)).due ≡ false }
     ensures cleared { (p : APin) → is_level p ≡ true → (with_eoi (vector_of p) p).remote ≡ false }
 {}
+
+/// A write of a low half leaves no remote IRR on an edge pin, and changes neither the line nor, of a level
+/// pin, remote IRR.
+pub fn write_of_a_low_half_settles_remote_irr()
+    ensures edge { (p : APin) (value : ℕ) → is_level (with_low value p) ≡ false → (with_low value p).remote ≡ false }
+    ensures level { (p : APin) (value : ℕ) → is_level (with_low value p) ≡ true → (with_low value p).remote ≡ p.remote }
+    ensures line { (p : APin) (value : ℕ) → (with_low value p).line ≡ p.line }
+{}

@@ -44,6 +44,15 @@ pub fn nothing_passes_the_priority()
     ensures none { (a : Apic) → IsOrdered a → next_vector a ≡ None → AllByRecursion (λ v. v / 16 ≤ ppr a / 16) a.irr }
 {}
 
+/// An accepted interrupt is requested, and the vector's trigger is that of the last one that was accepted;
+/// other vectors stay as they were.
+pub fn accepting_requests_the_vector()
+    ensures irr { (a : Apic) (v : ℕ) (level : Bool) → 16 ≤ v → has v (accepted v level a).irr ≡ true }
+    ensures tmr { (a : Apic) (v : ℕ) (level : Bool) → 16 ≤ v → has v (accepted v level a).tmr ≡ level }
+    ensures others { (a : Apic) (u v : ℕ) (level : Bool) → u ≢ v → has u (accepted v level a).irr ≡ has u a.irr }
+    ensures illegal { (a : Apic) (v : ℕ) (level : Bool) → v < 16 → accepted v level a ≡ a }
+{}
+
 /// Accepting an interrupt changes neither what is in service nor the task priority.
 pub fn accepting_leaves_service()
     ensures isr { (a : Apic) (v : ℕ) (level : Bool) → (accepted v level a).isr ≡ a.isr }

@@ -3,7 +3,7 @@
 --     final_of s offers      the state that they leave
 --     lines_of s             the state as a report's lines tell it
 --     shown_of s             the whole state
-use Rattle.std.specs.Prelude.{◌≡◌, ℕ, zero, suc, Bool, List, [], ◌∷◌, Option, None, Some, map}
+use Rattle.std.specs.Prelude.{ℕ, Bool, List, [], ◌∷◌, Option, None, Some, map}
 use Rattle.mpb_spec.specs.declared.agent.Agent.{Agent}
 use Rattle.mpb_spec.specs.declared.agent.Offer.{Offer}
 use Rattle.mpb_spec.specs.declared.agent.Offer.TheVariants.{Next}
@@ -21,27 +21,32 @@ use Rattle.mpb_spec.specs.Outcomes.{outcomes_of}
 use Rattle.mpb_spec.specs.Plan.{Plan, CpuPlan, initial_state_of}
 use Rattle.mpb_spec.specs.Asks.{any_step}
 
--- a board and what an offer came to, written short
+-- a processor of a board, written short
 abbrev pub cpu : ℕ → ℕ → List Op → CpuPlan
 cpu id version program = record { id = id; version = version; program = program }
 
+-- the board of these fields
 abbrev pub plan : ℕ → ℕ → List CpuPlan → List ℕ → Bool → List (List DevWord) → Plan
 plan boot boot_len cpus ios imcr devices = record { boot = boot; boot_len = boot_len; cpus = cpus; ios = ios; imcr = imcr; devices = devices }
 
+-- an outcome at a target
 abbrev pub at : ℕ → What → Outcome
 at id w = record { at = id; what = w }
 
+-- an offer that is taken: its op and outcomes
 abbrev pub told : Op → List Outcome → Option (Op × List Outcome)
 told o os = Some (o, os)
 
+-- one that isn't
 abbrev pub refused : Option (Op × List Outcome)
 refused = None
 
--- one offer
+-- the state after one offer
 abbrev pub state_of : Agent → Option Op → BoardState → BoardState
 state_of g None s = s
 state_of g (Some o) s = after g o s
 
+-- what comes of one offer
 abbrev pub told_of : Agent → Option Op → BoardState → Option (Op × List Outcome)
 told_of g None s = None
 told_of g (Some o) s = Some (o, outcomes_of g o s)
@@ -56,7 +61,7 @@ abbrev pub final_of : BoardState → List (Agent × Offer) → BoardState
 final_of s [] = s
 final_of s (x ∷ xs) = final_of (state_of x.0 (next_op s x.0 x.1) s) xs
 
--- the state, without what never changes
+-- a processor, without what never changes
 pub record ShownCpu : Type 0 where
   pub id : ℕ
   pub position : ℕ
@@ -66,6 +71,7 @@ pub record ShownCpu : Type 0 where
   pub tmr : List ℕ
   pub tpr : ℕ
 
+-- an I/O APIC, without what never changes
 pub record ShownIo : Type 0 where
   pub index : ℕ
   pub id : ℕ
@@ -76,6 +82,7 @@ pub record ShownIo : Type 0 where
   pub remote : ℕ
   pub halves : List (ℕ × ℕ)
 
+-- all of it
 pub record Shown : Type 0 where
   pub cpus : List ShownCpu
   pub ios : List ShownIo
@@ -83,20 +90,24 @@ pub record Shown : Type 0 where
   pub imcr : Imcr
   pub warm : Option ℕ
 
--- the same of a state
+-- a processor's part, written short
 abbrev pub shown : ℕ → ℕ → Life → List ℕ → List ℕ → List ℕ → ℕ → ShownCpu
 shown id position life irr isr tmr tpr = record { id = id; position = position; life = life; irr = irr; isr = isr; tmr = tmr; tpr = tpr }
 
+-- an I/O APIC's part
 abbrev pub shown_io : ℕ → ℕ → ℕ → Bool → ℕ → ℕ → ℕ → List (ℕ × ℕ) → ShownIo
 shown_io index id arbitration swept line due remote halves = record { index = index; id = id; arbitration = arbitration; swept = swept; line = line; due = due; remote = remote; halves = halves }
 
+-- that of a processor
 abbrev pub shown_cpu_of : Processor → ShownCpu
 shown_cpu_of p = shown p.id p.position p.life p.apic.irr p.apic.isr p.apic.tmr p.apic.tpr
 
+-- that of a place
 abbrev pub shown_io_of : Place → ShownIo
 shown_io_of p =
     shown_io p.chip.index p.chip.id p.chip.arbitration p.swept (mask_by (λ (q : Pin). q.line) p.chip.pins) (mask_by (λ (q : Pin). q.due) p.chip.pins) (mask_by (λ (q : Pin). q.remote) p.chip.pins) (map (λ (q : Pin). (q.low, q.high)) p.chip.pins)
 
+-- that of a state
 abbrev pub shown_of : BoardState → Shown
 shown_of s = record { cpus = map shown_cpu_of s.processors; ios = map shown_io_of s.places; devices = map (λ (d : Device). d.position) s.devices; imcr = s.imcr; warm = s.warm }
 
@@ -121,22 +132,27 @@ pub record Lines : Type 0 where
   pub cpus : List CpuLine
   pub ios : List IoLine
 
+-- a processor's line, written short
 abbrev pub cpu_line : ℕ → Life → ℕ → List ℕ → List ℕ → List ℕ → CpuLine
 cpu_line id life tpr irr isr tmr = record { id = id; life = life; tpr = tpr; irr = irr; isr = isr; tmr = tmr }
 
+-- an I/O APIC's
 abbrev pub io_line : ℕ → ℕ → ℕ → IoLine
 io_line line due remote = record { line = line; due = due; remote = remote }
 
+-- all of them
 abbrev pub lines : Imcr → List CpuLine → List IoLine → Lines
 lines imcr cpus ios = record { imcr = imcr; cpus = cpus; ios = ios }
 
--- those of a state
+-- that of a processor
 abbrev pub cpu_line_of : Processor → CpuLine
 cpu_line_of p = cpu_line p.id p.life p.apic.tpr p.apic.irr p.apic.isr p.apic.tmr
 
+-- that of a place
 abbrev pub io_line_of : Place → IoLine
 io_line_of p = io_line (mask_by (λ (q : Pin). q.line) p.chip.pins) (mask_by (λ (q : Pin). q.due) p.chip.pins) (mask_by (λ (q : Pin). q.remote) p.chip.pins)
 
+-- those of a state
 abbrev pub lines_of : BoardState → Lines
 lines_of s = lines s.imcr (map cpu_line_of s.processors) (map io_line_of s.places)
 
@@ -150,6 +166,7 @@ pub record Run : Type 0 where
   pub lines : Lines
   pub goes_on : Bool
 
+-- the run of the offers from the opening state
 abbrev pub run_of : Plan → List (Agent × Offer) → Run
 run_of c offers =
     let s = final_of (initial_state_of c) offers in

@@ -33,6 +33,7 @@ abbrev pub started_by : Option ℕ → Life
 started_by None = life.Asleep
 started_by (Some page) = life.Started page
 
+-- what comes of it: Started, or Ignored where the vector isn't set
 abbrev pub start_outcome : Option ℕ → What
 start_outcome None = what.Ignored
 start_outcome (Some page) = what.Started page
@@ -44,6 +45,7 @@ life_after_init warm version life.Waiting = life.Waiting
 life_after_init warm version (life.Started page) = life.Started page
 life_after_init warm version life.First = life.First
 
+-- what comes of INIT
 abbrev pub init_outcome : Option ℕ → ℕ → Life → What
 init_outcome warm version life.Asleep = if nat_le 16 version then what.Waiting else start_outcome warm
 init_outcome warm version life.Waiting = if nat_le 16 version then what.Waiting else what.Ignored
@@ -57,6 +59,7 @@ life_after_startup page life.Waiting = life.Started page
 life_after_startup page (life.Started p) = life.Started p
 life_after_startup page life.First = life.First
 
+-- what comes of STARTUP
 abbrev pub startup_outcome : ℕ → Life → What
 startup_outcome page life.Asleep = what.Ignored
 startup_outcome page life.Waiting = what.Started page

@@ -124,6 +124,7 @@ abbrev pub next_due_from : ℕ → List Pin → Option Message
 next_due_from n [] = None
 next_due_from n (p ∷ ps) = if p.due then Some (message_of n p) else next_due_from (n + 1) ps
 
+-- the message of the least due pin of all
 abbrev pub next_due : IoChip → Option Message
 next_due c = next_due_from 0 c.pins
 

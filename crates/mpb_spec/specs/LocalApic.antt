@@ -56,6 +56,7 @@ abbrev pub taken_from : LocalApic → Option ℕ → LocalApic
 taken_from a None = a
 taken_from a (Some v) = record a { irr = without v a.irr; isr = with_number v a.isr }
 
+-- the local APIC after it took its next vector, where it has one
 abbrev pub taken : LocalApic → LocalApic
 taken a = taken_from a (next_vector a)
 
@@ -64,6 +65,7 @@ abbrev pub ended_of : LocalApic → Option ℕ → Option (ℕ × Bool)
 ended_of a None = None
 ended_of a (Some v) = Some (v, has v a.tmr)
 
+-- the end of the interrupt in service, none where nothing is
 abbrev pub ended : LocalApic → Option (ℕ × Bool)
 ended a = ended_of a (greatest a.isr)
 
@@ -72,5 +74,6 @@ abbrev pub after_end_of : LocalApic → Option ℕ → LocalApic
 after_end_of a None = a
 after_end_of a (Some v) = record a { isr = without v a.isr }
 
+-- the local APIC after that end
 abbrev pub after_end : LocalApic → LocalApic
 after_end a = after_end_of a (greatest a.isr)

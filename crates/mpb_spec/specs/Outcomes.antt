@@ -58,19 +58,22 @@ what_effect effect.Plain = what.Plain
 what_effect effect.Due = what.Due
 what_effect effect.Withdrawn = what.Withdrawn
 
--- the answer of a write, a read, a line and a collection at the place
+-- of a write at the place: what it did to the pending send
 abbrev pub of_write : ℕ → Option Place → What
 of_write v None = what.Plain
 of_write v (Some p) = what_effect (write_effect v p.chip)
 
+-- of a read: the register
 abbrev pub of_read : Option Place → What
 of_read None = what.Read 0
 of_read (Some p) = what.Read (register p.chip)
 
+-- of a level of a line: what it did to the pending send
 abbrev pub of_line : ℕ → Bool → Option Place → What
 of_line pin high None = what.Plain
 of_line pin high (Some p) = what_effect (effect_at pin (with_line high) p.chip.pins)
 
+-- of a collection: the pins that became due, and those that were
 abbrev pub of_collect : ℕ → Option Place → What
 of_collect pins None = what.Pins 0 0
 of_collect pins (Some p) = what.Pins (pulsed_due pins p.chip.pins) (pulsed_joined pins p.chip.pins)

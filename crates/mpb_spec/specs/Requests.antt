@@ -26,10 +26,12 @@ abbrev pub is_vector : ℕ → Option ℕ → Bool
 is_vector v None = false
 is_vector v (Some u) = u == v
 
+-- the outcome is Set
 abbrev pub is_set : What → Bool
 is_set what.Set = true
 is_set w = false
 
+-- the outcome is that v is taken
 abbrev pub is_taken : ℕ → What → Bool
 is_taken v (what.Taken u) = u == v
 is_taken v w = false

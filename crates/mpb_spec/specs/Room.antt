@@ -21,10 +21,11 @@ sends_by n o = 0
 abbrev pub program_cost : ℕ → List Op → ℕ
 program_cost n ops = sum_by (λ o. suc (sends_by n o)) ops
 
--- of what is left of a processor's program, and of a device's
+-- of what is left of a processor's program
 abbrev pub processor_cost : ℕ → Processor → ℕ
 processor_cost n p = program_cost n (drop p.position p.program)
 
+-- of what is left of a device's program
 abbrev pub device_cost : ℕ → Device → ℕ
 device_cost n d = program_cost n (drop d.position d.program)
 
@@ -48,27 +49,31 @@ cost n s = sum_by (processor_cost n) s.processors + sum_by (device_cost n) s.dev
 abbrev pub ops_in : Plan → ℕ
 ops_in c = sum_by (λ p. length p.program) c.cpus + sum_by (λ words. length (device_program words)) c.devices
 
--- the kinds of words and ops that count
+-- the word is a pulse
 abbrev pub is_pulse : DevWord → Bool
 is_pulse (word.Pulse a pin) = true
 is_pulse w = false
 
+-- the word asserts a line
 abbrev pub is_high : DevWord → Bool
 is_high (word.High a pin) = true
 is_high w = false
 
+-- the op writes a register
 abbrev pub is_write : Op → Bool
 is_write (IoWin a v) = true
 is_write o = false
 
+-- the op ends an interrupt
 abbrev pub is_eoi : Op → Bool
 is_eoi Eoi = true
 is_eoi o = false
 
--- how many words of all devices, and how many ops of all processors, pass a test
+-- how many words of all devices pass a test
 abbrev pub words_by : (DevWord → Bool) → Plan → ℕ
 words_by f c = sum_by (λ words. count_by f words) c.devices
 
+-- how many ops of all processors pass a test
 abbrev pub ops_by : (Op → Bool) → Plan → ℕ
 ops_by f c = sum_by (λ p. count_by f p.program) c.cpus
 

@@ -107,6 +107,7 @@ is_accepted what.Set = true
 is_accepted what.Merged = true
 is_accepted o = false
 
+-- some target accepted it
 abbrev pub was_accepted : List Outcome → Bool
 was_accepted os = list_any (λ o. is_accepted o.what) os
 
@@ -125,6 +126,7 @@ abbrev pub due_of : Option Place → Option Message
 due_of None = None
 due_of (Some p) = next_due p.chip
 
+-- the message of the least due pin at the place
 abbrev pub due_at : ℕ → BoardState → Option Message
 due_at a s = due_of (slice_get s.places a)
 
@@ -145,6 +147,7 @@ abbrev pub level_vector : Option (ℕ × Bool) → Option ℕ
 level_vector None = None
 level_vector (Some e) = if e.1 then Some e.0 else None
 
+-- each I/O APIC after an end of interrupt of the vector
 abbrev pub ended_at_places : Option ℕ → List Place → List Place
 ended_at_places None ps = ps
 ended_at_places (Some v) ps = map (with_chip (with_pins_of (map (with_eoi v)))) ps

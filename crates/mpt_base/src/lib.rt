@@ -3,6 +3,7 @@
 #![tactic(auto)]
 
 mod fault;
+mod fields;
 mod file_shelf;
 mod laws;
 mod mem_shelf;
@@ -20,4 +21,4 @@ pub use mem_sink::MemSink;
 pub use numbers::{bytes_at, part_at, sum8, u16_at, u32_at, u64_at};
 pub use out_sink::OutSink;
 pub use outside::{Failed, NoMemory, Shelf, Sink};
-pub use writing::{put_bytes, put_u16, put_u32, put_u64, seal8};
+pub use writing::{append, checksum8, put_bytes, put_u16, put_u32, put_u64, seal8};

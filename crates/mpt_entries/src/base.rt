@@ -6,23 +6,22 @@ ghost use Rattle.mpt_spec.specs.declared.entry.Base.{Base};
 ghost use Rattle.mpt_spec.specs.Entries.{IsProcessorAt, IsBusAt, IsIoApicAt, IsInterruptAt, IsBaseEntryAt, AreBaseEntries, IsBaseFaultIn, base_length};
 ghost use Rattle.mpt_entries.specs.Answers.{IfFault, AnswersEntries, AnswersFault};
 
-use crate::fields::{read_field, read_fields};
 use crate::layouts::{bus_layout, interrupt_layout, io_apic_layout, processor_layout};
 use crate::stop::{Stop, fault_at};
-use mpt_base::{Fault, Reason, bytes_at, u16_at, u32_at};
+use mpt_base::{Fault, Reason, read_fields};
 use mpt_spec::{Base, Bus, IntEntry, IoApic, Processor};
 use std::alloc::Global;
 
 /// The type byte of a processor entry.
-const PROCESSOR: u8 = 0;
+pub(crate) const PROCESSOR: u8 = 0;
 /// The type byte of a bus entry.
-const BUS: u8 = 1;
+pub(crate) const BUS: u8 = 1;
 /// The type byte of an I/O APIC entry.
-const IO_APIC: u8 = 2;
+pub(crate) const IO_APIC: u8 = 2;
 /// The type byte of an I/O interrupt assignment entry.
-const IO_INTERRUPT: u8 = 3;
+pub(crate) const IO_INTERRUPT: u8 = 3;
 /// The type byte of a local interrupt assignment entry.
-const LOCAL_INTERRUPT: u8 = 4;
+pub(crate) const LOCAL_INTERRUPT: u8 = 4;
 /// The length of a processor entry in bytes.
 const PROCESSOR_LENGTH: usize = 20;
 /// The length of any other base entry in bytes.

@@ -6,19 +6,18 @@ ghost use Rattle.mpt_spec.specs.declared.entry.Ext.{Ext};
 ghost use Rattle.mpt_spec.specs.Extended.{IsSpaceAt, IsHierarchyAt, IsModifierAt, IsOpaqueAt, IsExtEntryAt, AreExtEntries, IsExtFaultIn, IsLengthOfExtType, ext_length};
 ghost use Rattle.mpt_entries.specs.Answers.{IfFault, AnswersEntries, AnswersFault};
 
-use crate::fields::{read_field, read_fields};
 use crate::layouts::{hierarchy_layout, modifier_layout, space_layout};
 use crate::stop::{Stop, fault_at};
-use mpt_base::{Fault, Reason, bytes_at, u32_at, u64_at};
+use mpt_base::{Fault, Reason, read_fields};
 use mpt_spec::{Ext, Hierarchy, Modifier, Opaque, Sequence, Space};
 use std::alloc::{AllocError, Global};
 
 /// The type byte of a system address space mapping entry.
-const SPACE: u8 = 128;
+pub(crate) const SPACE: u8 = 128;
 /// The type byte of a bus hierarchy descriptor entry.
-const HIERARCHY: u8 = 129;
+pub(crate) const HIERARCHY: u8 = 129;
 /// The type byte of a compatibility bus address space modifier entry.
-const MODIFIER: u8 = 130;
+pub(crate) const MODIFIER: u8 = 130;
 
 fn space_at(bytes: &[u8], at: usize) -> Space
     requires inside { at + 20 ≤ length bytes.now }

@@ -3,8 +3,9 @@
 #![tactic(auto)]
 
 mod base;
+mod base_writing;
 mod extended;
-mod fields;
+mod extended_writing;
 mod layouts;
 mod pci;
 mod stop;
@@ -12,7 +13,9 @@ mod stop;
 mod tests;
 
 pub use base::read_base;
+pub use base_writing::write_base;
 pub use extended::read_ext;
+pub use extended_writing::write_ext;
 pub use mpt_spec::{
     Base, Bus, Ext, Hierarchy, IntEntry, IoApic, Kind, Modifier, Opaque, Polarity, Processor,
     Space, Trigger,

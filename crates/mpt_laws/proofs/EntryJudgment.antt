@@ -12,7 +12,7 @@ use Rattle.mpt_spec.specs.declared.entry.Ext.TheVariants as ext
 use Rattle.mpt_spec.specs.Entries.{IsBaseEntryAt, base_length, AreBaseEntries, length_of_type, IsBaseFaultIn}
 use Rattle.mpt_spec.specs.Extended.{IsExtEntryAt, ext_length, AreExtEntries, IsLengthOfExtType, IsExtFaultIn}
 use Rattle.mpt_spec.proofs.EntryLemmas.{IsBaseFaultIn-after, IsExtFaultIn-after}
-use Rattle.mpt_laws.proofs.SpellingLemmas.{length-part}
+use Rattle.mpt_spec.proofs.SpellingLemmas.{length-part}
 
 -- a fact that holds or doesn't
 abbrev pub Decided : Type 0 → Type 0

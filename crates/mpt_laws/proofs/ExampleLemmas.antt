@@ -1,11 +1,11 @@
 -- The worked examples, by computing them.
-use Rattle.std.proofs.Common.{◌≡◌, ℕ, List, [], ◌∷◌, ◌++◌, refl, inr, arith}
+use Rattle.std.proofs.Common.{◌≡◌, ℕ, ◌%◌, ◌≤◌, List, [], ◌∷◌, ◌++◌, refl, inr, arith}
 use Rattle.mpt_base.specs.Bytes.{part}
 use Rattle.mpt_spec.specs.Pointer.{IsFloatingPointer}
 use Rattle.mpt_spec.specs.Search.{HasPointerAt, IsFirstPointerAt, search_places}
 use Rattle.mpt_spec.specs.Table.{IsConfigurationTable, Describes}
-use Rattle.mpt_spec.specs.Canonical.{IsCanonical, FitsInImage}
-use Rattle.mpt_laws.specs.Examples.{one_processor, one_processor_bytes, header_with, entry_with, small_pointer, small_image_with, small_image, small_tables, extended_tables, default_image, default_tables, second_place_image, second_place_tables, board_tables}
+use Rattle.mpt_spec.specs.Canonical.{IsCanonical, FitsInImage, HasPlaceFor}
+use Rattle.mpt_laws.specs.Examples.{one_processor, one_processor_bytes, header_with, entry_with, small_pointer, small_image_with, small_image, small_tables, extended_tables, default_image, default_tables, placed, second_place_image, second_place_tables, board_tables}
 
 -- the floating pointer of the small image, whatever stands behind it
 pub small_pointer_there : (table : List ℕ) → IsFloatingPointer small_pointer (part (small_image_with table) 0x500 16)
@@ -126,4 +126,26 @@ FitsInImage-board = record {
   low = omega arith;
   high = omega arith;
   block = record { low = omega arith; high = omega arith; apart = inr (omega arith) };
+}
+
+-- a block of 64 bytes with a place, and a floating pointer on a boundary
+pub FitsInImage-placed : (at address : ℕ) → at % 16 ≡ 0 → 0x500 ≤ at → at ≤ 0xFFFF0 → HasPlaceFor 64 address at → FitsInImage (placed at address)
+FitsInImage-placed at address boundary low high place = record {
+  well_formed = record {
+    revision = refl;
+    body = (refl, omega (arith, place.low), record { revision = refl; lawful = tt; base_fits = omega arith; ext_fits = omega arith });
+    paragraph = boundary;
+  };
+  low = low;
+  high = high;
+  block = place;
+}
+
+-- a default configuration, whatever the address
+pub FitsInImage-default : (n address : ℕ) → 1 ≤ n → n ≤ 7 → FitsInImage (record (default_tables n) { pointer = record (default_tables n).pointer { address = address } })
+FitsInImage-default n address some few = record {
+  well_formed = record { revision = refl; body = (refl, some, few); paragraph = refl };
+  low = omega arith;
+  high = omega arith;
+  block = tt;
 }

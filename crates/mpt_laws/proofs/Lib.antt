@@ -1,13 +1,5 @@
 pub mod PlaceLemmas
-pub mod ByteLemmas
-pub mod CanonicalLemmas
 pub mod EntryJudgment
 pub mod ExampleLemmas
 pub mod FaultExamples
 pub mod Judgment
-pub mod SpellingLemmas
-pub mod ValueLemmas
-pub mod WellFormedLemmas
-pub mod WrittenImageLemmas
-pub mod WrittenLemmas
-pub mod WrittenTableLemmas

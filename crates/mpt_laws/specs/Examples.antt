@@ -3,6 +3,7 @@
 --     small_pointer, small_pointer_bytes       the floating pointer that names it in the small image
 --     small_image                              1,360 bytes: the EBDA segment 0050h, the pointer at 500h, the table at 510h
 --     image_with ebda pointer table            the same with another segment, other bytes at 500h and other bytes from 510h on
+--     placed at address                        a floating pointer at a place that names a block of 64 bytes at an address
 --     board_tables                             a usual board: two processors, a PCI and an ISA bus, an I/O APIC, 19 interrupts
 use Rattle.std.specs.Prelude.{ℕ, List, [], ◌∷◌, ◌++◌, map, replicate, codes}
 use Rattle.std.specs.Int.{to_le_bytes, w16}
@@ -103,6 +104,10 @@ default_tables number = record {
   pointer = record { address = 0; revision = 4; features = number ∷ 0 ∷ 0 ∷ 0 ∷ 0 ∷ [] };
   body = body.Default number;
 }
+
+-- the table with one processor at an address, with the floating pointer at a place
+abbrev pub placed : ℕ → ℕ → Tables
+placed at address = record { at = at; pointer = record small_pointer { address = address }; body = body.Listed one_processor }
 
 -- a floating pointer of which one byte is wrong at 500h, a right one at 510h, and its table at 520h
 abbrev pub second_place_image : List ℕ

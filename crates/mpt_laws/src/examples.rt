@@ -1,15 +1,15 @@
 //! Worked examples of the definitions: what they say of small tables and images whose bytes are written
 //! out by hand. An example is the contract of a function that does nothing.
 
-ghost use Rattle.std.specs.Prelude.{◌≡◌, ◌+◌, [], ◌∷◌, ◌++◌, length};
+ghost use Rattle.std.specs.Prelude.{◌≡◌, ℕ, ◌+◌, [], ◌∷◌, ◌++◌, length};
 ghost use Rattle.std.specs.List.{flat_map};
 ghost use Rattle.mpt_base.specs.declared.fault.Reason.TheVariants as why;
 ghost use Rattle.mpt_spec.specs.Search.{areas_of, places_in};
 ghost use Rattle.mpt_spec.specs.Table.{Describes};
 ghost use Rattle.mpt_spec.specs.Faults.{IsFirstFault};
 ghost use Rattle.mpt_spec.specs.Canonical.{IsCanonical, FitsInImage, canonical_of, block_size};
-ghost use Rattle.mpt_spec.specs.Image.{table_bytes, block_bytes, pointer_bytes};
-ghost use Rattle.mpt_laws.specs.Examples.{one_processor, one_processor_bytes, header_with, entry_with, small_pointer, small_pointer_bytes, small_image_with, small_image, small_tables, extended_tables, default_image, default_tables, second_place_image, second_place_tables, board_tables, board_pointer_bytes};
+ghost use Rattle.mpt_spec.specs.Image.{table_bytes, body_bytes, pointer_bytes};
+ghost use Rattle.mpt_laws.specs.Examples.{one_processor, one_processor_bytes, header_with, entry_with, small_pointer, small_pointer_bytes, small_image_with, small_image, small_tables, extended_tables, default_image, default_tables, placed, second_place_image, second_place_tables, board_tables, board_pointer_bytes};
 
 /// A table of one processor and floating pointers to it at 510h and F0010h have the bytes that the figures of chapter 4 give.
 pub fn bytes_of_one_processor()
@@ -26,11 +26,37 @@ pub fn small_image_describes_its_table()
 
 /// The tables of a usual board take 260 bytes, are canonical and have a place in an image of 1 MiB.
 pub fn board_is_canonical()
-    ensures bytes { length (block_bytes board_tables.body) ≡ 260 }
+    ensures bytes { length (body_bytes board_tables.body) ≡ 260 }
     ensures size { block_size board_tables.body ≡ 260 }
     ensures canonical { IsCanonical board_tables }
     ensures unchanged { canonical_of board_tables ≡ board_tables }
     ensures fits { FitsInImage board_tables }
+{}
+
+/// A block of 64 bytes has a place from 500h on, up to 100000h, and beside the sixteen bytes of the
+/// floating pointer.
+pub fn bounds_of_a_block()
+    ensures from_500h { FitsInImage (placed 0x600 0x500) }
+    ensures not_below { ¬ FitsInImage (placed 0x600 0x4FF) }
+    ensures to_1_mib { FitsInImage (placed 0x500 0xFFFC0) }
+    ensures not_above { ¬ FitsInImage (placed 0x500 0xFFFC1) }
+    ensures before_the_pointer { FitsInImage (placed 0x600 0x5C0) }
+    ensures not_on_its_first_byte { ¬ FitsInImage (placed 0x600 0x5C1) }
+    ensures behind_the_pointer { FitsInImage (placed 0x600 0x610) }
+    ensures not_on_its_last_byte { ¬ FitsInImage (placed 0x600 0x60F) }
+{}
+
+/// A floating pointer has a place at the multiples of 16 from 500h to FFFF0h. One that names a default
+/// configuration from 1 to 7 may hold any address.
+pub fn bounds_of_a_pointer()
+    ensures from_500h { FitsInImage (placed 0x500 0x600) }
+    ensures not_below { ¬ FitsInImage (placed 0x4F0 0x600) }
+    ensures to_ffff0h { FitsInImage (placed 0xFFFF0 0x600) }
+    ensures not_above { ¬ FitsInImage (placed 0x100000 0x600) }
+    ensures not_between { ¬ FitsInImage (placed 0x508 0x600) }
+    ensures default_7 { FitsInImage (default_tables 7) }
+    ensures not_default_8 { ¬ FitsInImage (default_tables 8) }
+    ensures any_address { (address : ℕ) → FitsInImage (record (default_tables 1) { pointer = record (default_tables 1).pointer { address = address } }) }
 {}
 
 /// A pointer may name a default configuration, a table may have an opaque extended entry, and a place

@@ -19,7 +19,8 @@ ghost use Rattle.mpt_spec.specs.Canonical.{IsLawfulExt, IsWellFormedTable, IsWel
 ghost use Rattle.mpt_spec.specs.Table.{IsConfigurationTable, Describes};
 ghost use Rattle.mpt_spec.specs.Faults.{HasFaultAt, IsFirstFault};
 ghost use Rattle.mpt_spec.specs.Image.{base_bytes, ext_bytes, table_bytes, pointer_bytes, image_of};
-ghost use Rattle.mpt_laws.specs.Values.{IsByteList, IsBaseValue, IsExtValue, IsPointerValue, IsTableValue, IsTablesValue};
+ghost use Rattle.mpt_base.specs.Bytes.{IsByteList};
+ghost use Rattle.mpt_spec.specs.Values.{IsBaseValue, IsExtValue, IsPointerValue, IsTableValue, IsTablesValue};
 ghost use Rattle.mpt_laws.specs.Laws.{IsPlaceOf, IsDescribed, HasFirstFault};
 
 /// The places of an area are the multiples of 16 in it that have 16 bytes before its end.

@@ -5,8 +5,6 @@
 mod entry_lines;
 mod printing;
 mod table_lines;
-#[cfg(test)]
-mod tests;
 mod text;
 
 pub use printing::print;

@@ -1,5 +1,5 @@
 -- What was written piece by piece is the whole.
-use Rattle.std.proofs.Common.{◌≡◌, ℕ, ◌+◌, ◌*◌, List, [], ◌∷◌, ◌++◌, map, refl, sym, ap, ◌∙◌, append_assoc, append-nil}
+use Rattle.std.proofs.Common.{◌≡◌, ℕ, ◌+◌, ◌*◌, List, [], ◌∷◌, ◌++◌, map, sym, ap, ◌∙◌, append_assoc, append-nil}
 use Rattle.std.specs.List.{range_with_len}
 use Rattle.std.proofs.lemmas.List.FromFn.{map-range_with_len_more}
 
@@ -14,9 +14,3 @@ pub multiples_more : (x old new : List ℕ) (low n m k : ℕ) → low + n ≡ k 
 multiples_more x old new low n m k at e before after =
     let more : multiples low (n + 1) ≡ multiples low n ++ 16 * k ∷ [] = map-range_with_len_more (λ k. 16 * k) low n k at in
     after ∙ ap (λ y. y ++ 16 * k ∷ []) before ∙ append_assoc old (multiples low n) (16 * k ∷ []) ∙ ap (λ y. old ++ y) (sym more) ∙ ap (λ y. old ++ multiples low y) (sym e)
-
--- a header written in two pieces
-pub header_joined : (old x new front names a b d e f g : List ℕ) → x ≡ old ++ (front ++ names) → new ≡ x ++ (a ++ (b ++ (d ++ (e ++ (f ++ g))))) → new ≡ old ++ (front ++ (((((((names ++ a) ++ b) ++ d) ++ e) ++ f) ++ g)))
-header_joined old x new front names a b d e f g before after =
-    let joined : (old ++ (front ++ names)) ++ (a ++ (b ++ (d ++ (e ++ (f ++ g))))) ≡ old ++ (front ++ (((((((names ++ a) ++ b) ++ d) ++ e) ++ f) ++ g))) = simp append_assoc refl in
-    after ∙ ap (λ y. y ++ (a ++ (b ++ (d ++ (e ++ (f ++ g)))))) before ∙ joined

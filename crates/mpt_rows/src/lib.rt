@@ -4,4 +4,20 @@
 #![tactic(auto)]
 
 #[cfg(test)]
+mod canonical;
+#[cfg(test)]
+mod file_shelf;
+#[cfg(test)]
+mod fitting;
+#[cfg(test)]
+mod listing;
+#[cfg(test)]
 mod outside;
+#[cfg(test)]
+mod pointer;
+#[cfg(test)]
+mod spelled;
+#[cfg(test)]
+mod tables;
+#[cfg(test)]
+mod written;

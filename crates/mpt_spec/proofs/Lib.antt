@@ -6,4 +6,11 @@ pub mod FaultLemmas
 pub mod FirstFaultLemmas
 pub mod WindowLemmas
 pub mod TableWindowLemmas
-pub mod WellFormedTable
+pub mod ByteLemmas
+pub mod WrittenLemmas
+pub mod WrittenTableLemmas
+pub mod WrittenImageLemmas
+pub mod SpellingLemmas
+pub mod ValueLemmas
+pub mod WellFormedLemmas
+pub mod CanonicalLemmas

@@ -132,9 +132,10 @@ AreBaseEntries-moved (e ∷ es) a b i j n from to g inside h =
     let next : i + from + size ≡ i + (from + size) = omega arith in
     let after : j + (from + size) ≡ j + from + size = omega arith in
     let rest : AreBaseEntries es a (i + (from + size)) (i + to) = subst (λ (x : ℕ). AreBaseEntries es a x (i + to)) next h.1 in
-    let le : i + (from + size) ≤ i + to = AreBaseEntries-le es a (i + (from + size)) (i + to) rest in
-    (IsBaseEntryAt-moved e a b (i + from) (j + from) (Agree-within a b i j n from size (omega arith) g) h.0,
-    subst (λ (x : ℕ). AreBaseEntries es b x (j + to)) after (AreBaseEntries-moved es a b i j n (from + size) to g inside rest))
+    let le : i + (from + size) ≤ i + to = AreBaseEntries-le es a (i + (from + size)) (i + to) rest in (
+      IsBaseEntryAt-moved e a b (i + from) (j + from) (Agree-within a b i j n from size (omega arith) g) h.0,
+      subst (λ (x : ℕ). AreBaseEntries es b x (j + to)) after (AreBaseEntries-moved es a b i j n (from + size) to g inside rest),
+    )
 
 base_before_moved : (a b : List ℕ) (i j n from to k : ℕ) → Agree a b i j n → to ≤ n → HasBaseEntriesBefore a (i + from) (i + to) (i + k) → HasBaseEntriesBefore b (j + from) (j + to) (j + k)
 base_before_moved a b i j n from to k g inside h = record {
@@ -194,9 +195,10 @@ AreExtEntries-moved (e ∷ es) a b i j n from to g inside h =
     let next : i + from + size ≡ i + (from + size) = omega arith in
     let after : j + (from + size) ≡ j + from + size = omega arith in
     let rest : AreExtEntries es a (i + (from + size)) (i + to) = subst (λ (x : ℕ). AreExtEntries es a x (i + to)) next h.1 in
-    let le : i + (from + size) ≤ i + to = AreExtEntries-le es a (i + (from + size)) (i + to) rest in
-    (IsExtEntryAt-moved e a b (i + from) (j + from) (Agree-within a b i j n from size (omega arith) g) h.0,
-    subst (λ (x : ℕ). AreExtEntries es b x (j + to)) after (AreExtEntries-moved es a b i j n (from + size) to g inside rest))
+    let le : i + (from + size) ≤ i + to = AreExtEntries-le es a (i + (from + size)) (i + to) rest in (
+      IsExtEntryAt-moved e a b (i + from) (j + from) (Agree-within a b i j n from size (omega arith) g) h.0,
+      subst (λ (x : ℕ). AreExtEntries es b x (j + to)) after (AreExtEntries-moved es a b i j n (from + size) to g inside rest),
+    )
 
 ext_before_moved : (a b : List ℕ) (i j n from to k : ℕ) → Agree a b i j n → to ≤ n → HasExtEntriesBefore a (i + from) (i + to) (i + k) → HasExtEntriesBefore b (j + from) (j + to) (j + k)
 ext_before_moved a b i j n from to k g inside h = record {

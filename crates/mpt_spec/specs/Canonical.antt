@@ -1,7 +1,7 @@
 -- Well formed, canonical and fitting tables, and the canonical form. What is reserved is set to zero (MultiProcessor
 -- Specification 1.4, sections 4.1 to 4.4); that and the order of types are this project's own idea of canonical.
 --     base_size t, ext_size t      the bytes of the base table and of the extended part
---     IsWellFormed tables          there is an image that has them
+--     IsWellFormed tables          their fields go with one another, as in every image
 --     canonical_of tables          base entries in the order of their types, reserved bits zero
 --     IsCanonical tables           reserved bits are zero, and no base entry has a type below that of the entry before it
 --     FitsInImage tables           they have a place in an image of 1 MiB
@@ -50,7 +50,8 @@ abbrev pub IsWellFormedBody : Body → Pointer → Type 0
 IsWellFormedBody (body.Default n) p = (default_number p ≡ n) × (1 ≤ n) × (n ≤ 7)
 IsWellFormedBody (body.Listed t) p = (default_number p ≡ 0) × (p.address ≢ 0) × IsWellFormedTable t
 
--- there is an image that has the tables
+-- the tables have the revision of 1.4, a body as the floating pointer says, and their place on a boundary of 16 bytes. The tables
+-- of every image are so. Not all such tables have an image: the table's address may be the place of the floating pointer.
 pub record IsWellFormed (tables : Tables) : Type 0 where
   pub revision : tables.pointer.revision ≡ 4
   pub body : IsWellFormedBody tables.body tables.pointer

@@ -2,11 +2,13 @@
 -- 1.4, sections 4.1 to 4.4), and the image of 1 MiB that this project writes for them.
 --     base_bytes e, ext_bytes e    the bytes of an entry
 --     table_bytes t                the bytes of a table: header, base entries, extended entries, with both checksums
+--     body_bytes b                 the bytes of a body: those of a table, none for a default configuration
 --     pointer_bytes p              the bytes of a floating pointer
 --     image_of tables              the image that is written for the tables
-use Rattle.std.specs.Prelude.{ℕ, ◌+◌, ◌-◌, ◌/◌, ◌%◌, List, [], ◌∷◌, ◌++◌, length, take, drop, sum, replicate, codes}
+use Rattle.std.specs.Prelude.{ℕ, ◌+◌, ◌/◌, List, [], ◌∷◌, ◌++◌, length, replicate, codes}
 use Rattle.std.specs.Int.{to_le_bytes, w16, w32, w64}
 use Rattle.std.specs.List.{flat_map}
+use Rattle.mpt_base.specs.Writing.{overlay, checksum_of}
 use Rattle.mpt_spec.specs.declared.pointer.Pointer.{Pointer}
 use Rattle.mpt_spec.specs.declared.entry.IntEntry.{IntEntry}
 use Rattle.mpt_spec.specs.declared.entry.Base.{Base}
@@ -17,10 +19,6 @@ use Rattle.mpt_spec.specs.declared.tables.Table.{Table}
 use Rattle.mpt_spec.specs.declared.tables.Body.{Body}
 use Rattle.mpt_spec.specs.declared.tables.Body.TheVariants as body
 use Rattle.mpt_spec.specs.declared.tables.Tables.{Tables}
-
--- the byte that makes the sum of all bytes zero, if it takes the place of a zero
-abbrev pub checksum_of : List ℕ → ℕ
-checksum_of bytes = (256 - sum bytes % 256) % 256
 
 -- an interrupt entry of this type
 abbrev pub interrupt_bytes : ℕ → IntEntry → List ℕ
@@ -59,10 +57,10 @@ table_bytes t =
     let ext_part = flat_map ext_bytes t.ext in
     base_table_bytes t (checksum_of (base_table_bytes t 0 ext_part)) ext_part ++ ext_part
 
--- the block of a body: a table, or nothing for a default configuration
-abbrev pub block_bytes : Body → List ℕ
-block_bytes (body.Default n) = []
-block_bytes (body.Listed t) = table_bytes t
+-- the bytes of a body: those of a table, or none for a default configuration
+abbrev pub body_bytes : Body → List ℕ
+body_bytes (body.Default n) = []
+body_bytes (body.Listed t) = table_bytes t
 
 -- a floating pointer (figure 4-2) with this checksum
 abbrev pub pointer_with : Pointer → ℕ → List ℕ
@@ -72,12 +70,8 @@ pointer_with p checksum = codes "_MP_" ++ to_le_bytes w32 p.address ++ 1 ∷ p.r
 abbrev pub pointer_bytes : Pointer → List ℕ
 pointer_bytes p = pointer_with p (checksum_of (pointer_with p 0))
 
--- the image with these bytes from a place on
-abbrev pub overlay : List ℕ → ℕ → List ℕ → List ℕ
-overlay image at bytes = take at image ++ bytes ++ drop (at + length bytes) image
-
 -- the image of 1 MiB that is written for the tables: all zero but the EBDA segment at 40Eh, which names their place, the
--- floating pointer there, and the block at its address
+-- floating pointer there, and the bytes of the body at its address
 unfoldable pub image_of : Tables → List ℕ
 image_of tables =
-    overlay (overlay (overlay (replicate 0x100000 0) 0x40E (to_le_bytes w16 (tables.at / 16))) tables.at (pointer_bytes tables.pointer)) tables.pointer.address (block_bytes tables.body)
+    overlay (overlay (overlay (replicate 0x100000 0) 0x40E (to_le_bytes w16 (tables.at / 16))) tables.at (pointer_bytes tables.pointer)) tables.pointer.address (body_bytes tables.body)

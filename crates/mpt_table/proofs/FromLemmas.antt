@@ -1,8 +1,7 @@
 -- What a window says of the image in a file, where the file is told.
-use Rattle.std.proofs.Common.{◌≡◌, ◌≢◌, ℕ, ◌+◌, ◌-◌, ◌*◌, ◌%◌, ◌≤◌, ◌<◌, ◌^◌, List, [], ◌∷◌, ◌++◌, length, drop, get_or, refl, sym, ap, ◌∙◌, subst, inl, inr, Option, Some, None, IfSome, IfNone, Result, Ok, Err, IfOk, IfErr, arith}
-use Rattle.std.specs.Prelude.{◌⊎◌, slice_index}
-use Rattle.std.specs.List.{flat_map, AllByRecursion}
-use Rattle.mpt_base.specs.Bytes.{part, number_at}
+use Rattle.std.proofs.Common.{◌≡◌, ℕ, ◌+◌, ◌-◌, ◌%◌, ◌≤◌, List, [], ◌++◌, length, sym, ap, ◌∙◌, subst, inl, inr, Option, Some, None, IfSome, IfNone, Result, Ok, Err, IfOk, IfErr, arith}
+use Rattle.std.specs.List.{flat_map}
+use Rattle.mpt_base.specs.Bytes.{part}
 use Rattle.mpt_base.specs.Outside.{Files, IsSizeTold, FillsFromTold}
 use Rattle.mpt_base.specs.declared.fault.Reason.{Reason}
 use Rattle.mpt_spec.specs.declared.pointer.Area.{Area}
@@ -10,19 +9,19 @@ use Rattle.mpt_spec.specs.declared.pointer.Pointer.{Pointer}
 use Rattle.mpt_spec.specs.declared.tables.Table.{Table}
 use Rattle.mpt_spec.specs.Pointer.{IsFloatingPointer}
 use Rattle.mpt_spec.specs.Search.{word_at, areas_of, places_in, search_places, IsFirst, HoldsAtNone, HasPointerAt, IsFirstPointerAt}
-use Rattle.mpt_spec.specs.Table.{base_length_at, ext_length_at, base_end, ext_end, HasBaseInside, HasExtInside, IsConfigurationTable, default_number}
-use Rattle.mpt_spec.specs.Faults.{HasTableFaultAt, HasPointerFaultAt, IsFirstFault}
+use Rattle.mpt_spec.specs.Table.{base_length_at, ext_length_at, IsConfigurationTable, default_number}
+use Rattle.mpt_spec.specs.Faults.{HasTableFaultAt, IsFirstFault}
 use Rattle.mpt_spec.proofs.CallerLemmas.{IsFloatingPointer-fields}
 use Rattle.mpt_spec.proofs.FirstFaultLemmas.{IsFirstFault-of_table, IsFirstFault-of_pointer}
 use Rattle.mpt_spec.proofs.WindowLemmas.{Agree, Agree-part, Agree-number, part-part}
 use Rattle.mpt_spec.proofs.TableWindowLemmas.{HasTableBytes, IsConfigurationTable-moved}
-use Rattle.mpt_pointer.proofs.FirstLemmas.{KeepsFirst, KeepsFirst-start, KeepsFirst-behind, IsFirst-front}
+use Rattle.mpt_pointer.proofs.FirstLemmas.{KeepsFirst, KeepsFirst-behind, IsFirst-front}
 use Rattle.mpt_table.specs.Least.{IsLeast}
 use Rattle.mpt_table.specs.Header.{HasRightPointer, IsPointerFault}
 use Rattle.mpt_table.specs.declared.search_from.Found.{Found}
 use Rattle.mpt_table.specs.declared.refusal.FileRefusal.{FileRefusal}
 use Rattle.mpt_table.specs.declared.refusal.FileRefusal.TheVariants as refusal
-use Rattle.mpt_table.specs.Windows.{IfTold, IsAreaIn, area_bytes, IsFoundAmong, IfFaultOf, IsFileCauseOf, IsTableRefusal}
+use Rattle.mpt_table.specs.Windows.{IfTold, IsAreaIn, IsFoundAmong, IfFaultOf, IsFileCauseOf, IsTableRefusal}
 use Rattle.mpt_table.proofs.PointerFaults.{IsPointerFault-first, HasRightPointer-no_fault}
 use Rattle.mpt_table.proofs.TableInWindow.{IsLeast-moved}
 use Rattle.mpt_table.proofs.WindowAreas.{own_area, first_in_window, none_in_window, places-empty}
@@ -40,7 +39,7 @@ areas-told told name e b size areas is_size ebda base are =
     (λ image. flat_map places_in areas ≡ search_places image)
     (λ image h. ap (λ (l : List Area). flat_map places_in l) (are ∙ ap (λ (x : ℕ). areas_of x b size) h.1.0 ∙ ap (λ (x : ℕ). areas_of (word_at image 0x40E) x size) h.1.1 ∙ ap (λ (x : ℕ). areas_of (word_at image 0x40E) (word_at image 0x413) x) (sym h.0)))
     (IfTold-both told name (λ image. length image ≡ size) (λ image. (e ≡ word_at image 0x40E) × (b ≡ word_at image 0x413)) (IfTold-size told name size is_size)
-        (IfTold-both told name (λ image. e ≡ word_at image 0x40E) (λ image. b ≡ word_at image 0x413) ebda base))
+    (IfTold-both told name (λ image. e ≡ word_at image 0x40E) (λ image. b ≡ word_at image 0x413) ebda base))
 
 found_in_image : (image : List ℕ) (size : ℕ) (area : Area) (bytes : List ℕ) (at : ℕ) (p : Pointer) → IsAreaIn size area → length bytes ≡ area.to - area.from → area.from ≤ at → at + 16 ≤ area.from + length bytes
     → IsFirst (HasPointerAt bytes) (places_in (own_area (length bytes))) (at - area.from) → IsFloatingPointer p (part bytes (at - area.from) 16) → bytes ≡ part image area.from (length bytes)
@@ -52,11 +51,12 @@ found_in_image image size area bytes at p is all after inside first there same =
     let end : area.from + n ≡ area.to = omega (arith, is.order, all) in
     let in_part : IsFirst (HasPointerAt (part image area.from n)) (places_in (own_area n)) x = subst (λ (b : List ℕ). IsFirst (HasPointerAt b) (places_in (own_area n)) x) same first in
     let there_part : IsFloatingPointer p (part (part image area.from n) x 16) = subst (λ (b : List ℕ). IsFloatingPointer p (part b x 16)) same there in
-    let paragraph : area.from % 16 ≡ 0 = elim is.paragraph [ | inl h ↦ h | inr none ↦ absurd (omega (arith, none, all, inside)) ] in
+    let paragraph : area.from % 16 ≡ 0 = elim is.paragraph [ inl h ↦ h | inr none ↦ absurd (omega (arith, none, all, inside)) ] in
     let whole : IsFirst (HasPointerAt image) (places_in (record { from = area.from; to = area.from + n })) (area.from + x) = first_in_window image area.from n x paragraph in_part in
-    let moved = subst (λ (to : ℕ). IsFirst (HasPointerAt image) (places_in (record { from = area.from; to = to })) (area.from + x)) end whole in
-    (subst (λ (y : ℕ). IsFirst (HasPointerAt image) (places_in area) y) place moved,
-    subst (λ (y : ℕ). IsFloatingPointer p (part image y 16)) place (subst (λ (b : List ℕ). IsFloatingPointer p b) (part-part image area.from n x 16 (omega arith)) there_part))
+    let moved = subst (λ (to : ℕ). IsFirst (HasPointerAt image) (places_in (record { from = area.from; to = to })) (area.from + x)) end whole in (
+      subst (λ (y : ℕ). IsFirst (HasPointerAt image) (places_in area) y) place moved,
+      subst (λ (y : ℕ). IsFloatingPointer p (part image y 16)) place (subst (λ (b : List ℕ). IsFloatingPointer p b) (part-part image area.from n x 16 (omega arith)) there_part),
+    )
 
 -- what is found in the window of an area is found in the area
 pub IsFoundAmong-of_window : (told : Option Files) (name : List ℕ) (size : ℕ) (area : Area) (bytes : List ℕ) (at : ℕ) (p : Pointer) → IsAreaIn size area → length bytes ≡ area.to - area.from → area.from ≤ at → at + 16 ≤ area.from + length bytes
@@ -122,7 +122,7 @@ HasTableBytes-told told name header bytes size at n is_size room fills_header he
     (λ image. HasTableBytes bytes image 0 at (length bytes))
     (λ image h. table_bytes_of image header bytes size at n h.0 room h.1.0 header_size h.1.1 all whole inside base both)
     (IfTold-both told name (λ image. length image ≡ size) (λ image. (header ≡ part image at (length header)) × (bytes ≡ part image at (length bytes))) (IfTold-size told name size is_size)
-        (IfTold-both told name (λ image. header ≡ part image at (length header)) (λ image. bytes ≡ part image at (length bytes)) (IfTold-fills told name at header fills_header) (IfTold-fills told name at bytes fills)))
+    (IfTold-both told name (λ image. header ≡ part image at (length header)) (λ image. bytes ≡ part image at (length bytes)) (IfTold-fills told name at header fills_header) (IfTold-fills told name at bytes fills)))
 
 -- a table that is the whole of these bytes stands in the image
 pub IsConfigurationTable-told : (told : Option Files) (name bytes : List ℕ) (at : ℕ) (t : Table) → IfTold told name (λ image. HasTableBytes bytes image 0 at (length bytes)) → IsConfigurationTable t bytes 0 → IfTold told name (λ image. IsConfigurationTable t image at)
@@ -145,8 +145,8 @@ pub pointer_fault-told : (told : Option Files) (name : List ℕ) (size at k : �
 pointer_fault-told told name size at k p w is_size found h =
     IfTold-map told name (λ image. (length image ≡ size) × (IsFirstPointerAt image at × IsFloatingPointer p (part image at 16))) (λ image. IsFirstFault image k w)
     (λ image g.
-        let least = IsPointerFault-first p image at k w g.1.1 (subst (λ (n : ℕ). IsLeast (IsPointerFault p n at) k w) (sym g.0) h) in
-        IsFirstFault-of_pointer image at k w g.1.0 least.stands least.least)
+    let least = IsPointerFault-first p image at k w g.1.1 (subst (λ (n : ℕ). IsLeast (IsPointerFault p n at) k w) (sym g.0) h) in
+    IsFirstFault-of_pointer image at k w g.1.0 least.stands least.least)
     (IfTold-both told name (λ image. length image ≡ size) (λ image. IsFirstPointerAt image at × IsFloatingPointer p (part image at 16)) (IfTold-size told name size is_size) found)
 
 -- the first fault of its table is that of the image
@@ -155,11 +155,11 @@ pub table_fault-told : (told : Option Files) (name : List ℕ) (size at k : ℕ)
 table_fault-told told name size at k p w is_size found right listed h =
     IfTold-map told name (λ image. ((length image ≡ size) × (IsFirstPointerAt image at × IsFloatingPointer p (part image at 16))) × IsLeast (HasTableFaultAt image p.address) k w) (λ image. IsFirstFault image k w)
     (λ image g.
-        let fields = IsFloatingPointer-fields p image at g.0.1.1 in
-        let least = subst (λ (n : ℕ). IsLeast (HasTableFaultAt image n) k w) fields.address g.1 in
-        IsFirstFault-of_table image at k w g.0.1.0 (HasRightPointer-no_fault p image at g.0.1.1 (subst (HasRightPointer p) (sym g.0.0) right)) (sym fields.default ∙ listed) least.stands least.least)
+    let fields = IsFloatingPointer-fields p image at g.0.1.1 in
+    let least = subst (λ (n : ℕ). IsLeast (HasTableFaultAt image n) k w) fields.address g.1 in
+    IsFirstFault-of_table image at k w g.0.1.0 (HasRightPointer-no_fault p image at g.0.1.1 (subst (HasRightPointer p) (sym g.0.0) right)) (sym fields.default ∙ listed) least.stands least.least)
     (IfTold-both told name (λ image. (length image ≡ size) × (IsFirstPointerAt image at × IsFloatingPointer p (part image at 16))) (λ image. IsLeast (HasTableFaultAt image p.address) k w)
-        (IfTold-both told name (λ image. length image ≡ size) (λ image. IsFirstPointerAt image at × IsFloatingPointer p (part image at 16)) (IfTold-size told name size is_size) found) h)
+    (IfTold-both told name (λ image. length image ≡ size) (λ image. IsFirstPointerAt image at × IsFloatingPointer p (part image at 16)) (IfTold-size told name size is_size) found) h)
 
 -- ---- answers
 

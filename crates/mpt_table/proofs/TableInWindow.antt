@@ -1,7 +1,7 @@
 -- The first fault of a table is the first wherever its bytes are.
-use Rattle.std.proofs.Common.{◌≡◌, ℕ, ◌+◌, ◌-◌, ◌≤◌, List, subst, sym, arith}
+use Rattle.std.proofs.Common.{◌≡◌, ℕ, ◌+◌, ◌-◌, ◌≤◌, List, subst, arith}
 use Rattle.mpt_base.specs.declared.fault.Reason.{Reason}
-use Rattle.mpt_spec.specs.Faults.{fault_order, HasTableFaultAt}
+use Rattle.mpt_spec.specs.Faults.{HasTableFaultAt}
 use Rattle.mpt_spec.proofs.FirstFaultLemmas.{HasTableFaultAt-offset}
 use Rattle.mpt_spec.proofs.TableWindowLemmas.{HasTableBytes, HasTableBytes-sym, HasTableFaultAt-moved}
 use Rattle.mpt_table.specs.Least.{IsLeast}

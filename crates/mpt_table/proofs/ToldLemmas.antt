@@ -1,8 +1,8 @@
 -- What holds of the bytes of a file where the files are told.
-use Rattle.std.proofs.Common.{◌≡◌, ℕ, ◌+◌, ◌≤◌, List, length, Option, None, Some, IfSome, sym, arith}
+use Rattle.std.proofs.Common.{◌≡◌, ℕ, List, length, Option, None, Some, IfSome}
 use Rattle.std.specs.Prelude.{option_map}
 use Rattle.mpt_base.specs.Bytes.{part}
-use Rattle.mpt_base.specs.Outside.{Files, IsSizeTold, IsInsideTold, FillsFromTold}
+use Rattle.mpt_base.specs.Outside.{Files, IsSizeTold, FillsFromTold}
 use Rattle.mpt_table.specs.Windows.{IfTold}
 
 some_map : (o : Option (List ℕ)) (P Q : List ℕ → Type 0) → ((image : List ℕ) → P image → Q image) → IfSome o P → IfSome o Q

@@ -8,7 +8,6 @@
 use Rattle.std.specs.Prelude.{◌≡◌, ℕ, ◌+◌, ◌-◌, ◌%◌, ◌≤◌, ◌<◌, ◌^◌, ◌⊎◌, List, [], ◌∷◌, Option, None, Some, IfSome, IsSomeAnd, Result, Ok, Err, ⊤}
 use Rattle.mpt_base.specs.declared.fault.Reason.{Reason}
 use Rattle.mpt_spec.specs.declared.tables.Tables.{Tables}
-use Rattle.std.specs.List.{AllByRecursion}
 use Rattle.mpt_base.specs.Bytes.{part}
 use Rattle.mpt_base.specs.Outside.{Files}
 use Rattle.mpt_spec.specs.declared.pointer.Pointer.{Pointer}

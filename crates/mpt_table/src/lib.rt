@@ -5,13 +5,13 @@
 mod header;
 mod pointer_fault;
 mod reading;
+mod reading_from;
 mod refusal;
 mod search_from;
 mod table_from;
-mod reading_from;
-mod window;
 #[cfg(test)]
 mod tests;
+mod window;
 
 pub use mpt_spec::{Body, Pointer, Table, Tables};
 pub use reading::read;

@@ -29,11 +29,7 @@ pub(crate) struct Found {
 }
 
 // the areas of which the file's own words tell
-fn areas_from<S: Shelf>(
-    shelf: &mut S,
-    name: &str,
-    size: u64,
-) -> Result<ArrayVec<Area, 2>, Failed>
+fn areas_from<S: Shelf>(shelf: &mut S, name: &str, size: u64) -> Result<ArrayVec<Area, 2>, Failed>
     requires told { IsSizeTold (S.files shelf.old) name.now (Some size) }
     ensures files_stay { S.files shelf.new ≡ S.files shelf.old }
     ensures faults_never_fall { S.faults shelf.old ≤ S.faults shelf.new }

@@ -1,55 +1,170 @@
--- What follows from an answer.
-use Rattle.std.proofs.Common.{◌≡◌, ℕ, ◌≤◌, ◌<◌, ◌^◌, List, [], ◌∷◌, length, map, get_or, Option, Some, None, IfSome, IsSomeAnd, Result, Ok, Err, IfOk, IfErr, refl, inl, inr, arith}
+-- What the walk meets at a file is what is due to the form.
+use Rattle.std.proofs.Common.{◌≡◌, ℕ, ◌+◌, ◌≤◌, ◌<◌, ◌^◌, List, [], ◌∷◌, length, map, get_or, Option, Some, None, IfSome, IsSomeAnd, Result, Ok, Err, IfOk, IfErr, refl, sym, ap, subst, ◌∙◌, inl, inr, arith}
 use Rattle.std.specs.Prelude.{option_map}
 use Rattle.mpt_base.specs.Outside.{Files, IsSizeTold}
 use Rattle.mpt_spec.specs.declared.tables.Tables.{Tables}
 use Rattle.mpt_spec.specs.Table.{Describes}
-use Rattle.mpt_spec.specs.Canonical.{IsWellFormed}
-use Rattle.mpt_table.specs.declared.refusal.FileRefusal.{FileRefusal}
-use Rattle.mpt_table.specs.declared.refusal.FileRefusal.TheVariants as refusal
-use Rattle.mpt_table.specs.Windows.{IfTold, IfFaultOf, IsFileCauseOf}
-use Rattle.mptab_calls.specs.ReadAnswer.{IsTextOf}
-use Rattle.mptab_calls.specs.Forms.{Show, Image, limit_of, IsRead}
-use Rattle.mptab_calls.specs.Commands.{IsUnderstood, IsText, IsRefused}
-use Rattle.mptab_calls.specs.Walk.{IsAnswerOf}
 use Rattle.mpt_spec.specs.Search.{HasNoPointer}
 use Rattle.mpt_spec.specs.Faults.{IsFirstFault}
+use Rattle.mpt_spec.specs.Canonical.{IsWellFormed, FitsInImage, block_size}
+use Rattle.mpt_parse.specs.declared.fault.LineWhy.{LineWhy}
+use Rattle.mpt_parse.specs.Listings.{IsListing, IsListingOf, IsFirstBadLine}
+use Rattle.mpt_rules.specs.declared.rule.Finding.{Finding}
+use Rattle.mpt_table.proofs.ToldLemmas.{IfTold-map}
+use Rattle.mpt_base.specs.declared.fault.Reason.{Reason}
+use Rattle.mpt_table.specs.Windows.{IfTold}
+use Rattle.mptab_calls.specs.declared.ending.Ending.{Ending}
+use Rattle.mptab_calls.specs.declared.ending.Ending.TheVariants.{Absent, TooLarge, Unread, Refused, NoMemory}
+use Rattle.mptab_calls.specs.Forms.{Form, Show, Audit, Canon, Build, Route, Named, Image, Listing, source_of, files_of, name_of, limit_of, IsRead}
+use Rattle.mptab_calls.specs.Commands.{status_of, GivesTables, IsRefused, IsAnswerTo, IsReadyFor, no_pointer_line, fault_line, bad_line_line, unfit_line}
+use Rattle.mptab_calls.specs.Walk.{Outside, IsDueOf, AsksOf, most_of}
+use Rattle.mptab_calls.specs.Ending.{ending_status, ending_text, IsEnding, Shelves, shelves}
+use Rattle.mptab_calls.specs.declared.answer.Answer.{Answer}
+use Rattle.mpt_base.specs.declared.outside.NoMemory.{NoMemory as NoMemoryUnit}
+
+-- no refusal has the status of an absent file
+refused_not_absent : (told : Option Files) (file : Named) (status : ℕ) (text : List ℕ) → IsRefused told file status text → status ≡ 3 → ⊥
+refused_not_absent told (Image name) status text (inl h) three = omega (arith, three, h.0)
+refused_not_absent told (Image name) status text (inr h) three = omega (arith, three, h.0)
+refused_not_absent told (Listing name) status text (inl h) three = omega (arith, three, h.0)
+refused_not_absent told (Listing name) status text (inr h) three = omega (arith, three, h.0)
+
+-- where the walk ends at the file that gives the form its tables, that is due
+ending_due : (told : Option Files) (before after : Outside) (form : Form) (e : Ending) → IsEnding told (shelves before.misses after.misses before.faults after.faults) (source_of form) e
+    → IsDueOf told before after form (ending_status e) (ending_text (name_of (source_of form)) e)
+ending_due told before after form Absent h = inl (inl (source_of form, inl refl, inl (refl, h.0, refl)), λ three. h.1, h.2)
+ending_due told before after form Unread h = inr (inl (refl, h, source_of form, inl refl, refl))
+ending_due told before after form NoMemory h = inr (inr (refl, h.1, h.0, refl))
+ending_due told before after form (TooLarge size) h = inl (inl (source_of form, inl refl, inr (inl (refl, size, h.0, refl))), λ three. absurd (omega (arith, three)), h.1)
+ending_due told before after form (Refused answer) h = inl (inl (source_of form, inl refl, inr (inr h.0)), λ three. absurd (refused_not_absent told (source_of form) answer.status answer.text.items h.0 three), h.1)
+
+pub IsEnding-due : (told : Option Files) (before after : Outside) (form : Form) (file : Named) (name : List ℕ) (e : Ending) → file ≡ source_of form → name ≡ name_of file → IsEnding told (shelves before.misses after.misses before.faults after.faults) file e
+    → IsDueOf told before after form (ending_status e) (ending_text name e)
+IsEnding-due told before after form file name e is named h =
+    subst (λ (n : List ℕ). IsDueOf told before after form (ending_status e) (ending_text n e)) (ap name_of (sym is) ∙ sym named)
+    (ending_due told before after form e (subst (λ (f : Named). IsEnding told (shelves before.misses after.misses before.faults after.faults) f e) is h))
+
+-- a file of which something is read is there
+read_there : (files : Files) (file : Named) (P : List ℕ → Type 0) → IsRead (Some files) file P → IsRead (Some files) file (λ bytes. Unit {0})
+read_there files file P h = held (files (name_of file)) h
+  where
+    held : (o : Option (List ℕ)) → IsSomeAnd o (λ bytes. (length bytes ≤ limit_of file) × P bytes) → IsSomeAnd o (λ bytes. (length bytes ≤ limit_of file) × Unit {0})
+    held None h = absurd h
+    held (Some bytes) h = (h.0, tt)
+
+-- where memory is wanting behind a file that gives tables, that is due
+pub IsEnding-given : (told : Option Files) (before after : Outside) (file : Named) (tables : Tables) → GivesTables told file tables → after.faults ≡ before.faults → IsEnding told (shelves before.misses after.misses before.faults after.faults) file NoMemory
+IsEnding-given None before after file tables gives kept = (tt, kept)
+IsEnding-given (Some files) before after (Image name) tables gives kept = (read_there files (Image name) (λ image. Describes image tables) gives, kept)
+IsEnding-given (Some files) before after (Listing name) tables gives kept = (read_there files (Listing name) (IsListingOf tables) gives.1, kept)
+
+-- no answer to tables has the status of an absent file
+not_absent : (form : Form) (tables : Tables) (status : ℕ) (text : List ℕ) → IsAnswerTo form tables status text → status ≡ 3 → ⊥
+not_absent (Show image) tables status text h three = omega (arith, three, h.0)
+not_absent (Audit image) tables status text (findings, are, is, t) three = by_findings findings is
+  where
+    by_findings : (fs : List Finding) → status ≡ status_of fs → ⊥
+    by_findings [] e = omega (arith, three, e)
+    by_findings (f ∷ fs) e = omega (arith, three, e)
+not_absent (Canon image) tables status text (inl h) three = omega (arith, three, h.0)
+not_absent (Canon image) tables status text (inr h) three = omega (arith, three, h.0)
+not_absent (Build listing) tables status text h three = omega (arith, three, h.0)
+not_absent (Route image elcr) tables status text h three = omega (arith, three, h.0)
+
+-- tables that a file gives are what the form needs beside well formed
+ready_given : (told : Option Files) (form : Form) (tables : Tables) → GivesTables told (source_of form) tables → IsReadyFor form tables
+ready_given told (Show image) tables gives = tt
+ready_given told (Audit image) tables gives = tt
+ready_given told (Canon image) tables gives = tt
+ready_given told (Build listing) tables gives = gives.0
+ready_given told (Route image elcr) tables gives = tt
+
+pub IsReadyFor-given : (told : Option Files) (form : Form) (file : Named) (tables : Tables) → file ≡ source_of form → GivesTables told file tables → IsReadyFor form tables
+IsReadyFor-given told form file tables is gives = ready_given told form tables (subst (λ (f : Named). GivesTables told f tables) is gives)
+
+-- what its tables give the form is due
+pub IsAnswerTo-due : (told : Option Files) (before after : Outside) (form : Form) (file : Named) (tables : Tables) (status : ℕ) (text : List ℕ) → file ≡ source_of form → GivesTables told file tables → IsWellFormed tables → tables.at < 2 ^ 32 → after.faults ≡ before.faults
+    → IsAnswerTo form tables status text → IsDueOf told before after form status text
+IsAnswerTo-due told before after form file tables status text is gives low_form low kept answer =
+    let own : GivesTables told (source_of form) tables = subst (λ (f : Named). GivesTables told f tables) is gives in
+    inl (inr (((tables, own), tt), (tables, low_form, low, own, answer)), λ three. absurd (not_absent form tables status text answer three), kept)
+
+-- the file that gives the form its tables is all that is asked for
+pub AsksOf-source : (told : Option Files) (form : Form) (file : Named) (before after : ℕ) → file ≡ source_of form → after ≤ before + most_of told file → (n : ℕ) × (after ≤ before + n) × AsksOf told (files_of form) n
+AsksOf-source told form file before after is asks =
+    (most_of told (source_of form), subst (λ (f : Named). after ≤ before + most_of told f) is asks, inl (omega arith))
+
+-- ---- an image
 
 -- where the files are told, what is said of a file of a told size within its limit is said of one that is there
-IsRead-told : (told : Option Files) (name : List ℕ) (size : ℕ) (P : List ℕ → Type 0) → IsSizeTold told name (Some size) → size ≤ limit_of (Image name) → IfTold told name P → IsRead told (Image name) P
-IsRead-told None name size P is within p = tt
-IsRead-told (Some files) name size P is within p = held (files name) is p
+pub IsRead-told : (told : Option Files) (file : Named) (size : ℕ) (P : List ℕ → Type 0) → IsSizeTold told (name_of file) (Some size) → size ≤ limit_of file → IfTold told (name_of file) P → IsRead told file P
+IsRead-told None file size P is within p = tt
+IsRead-told (Some files) file size P is within p = held (files (name_of file)) is p
   where
-    held : (o : Option (List ℕ)) → Some size ≡ option_map length o → IfSome o P → IsSomeAnd o (λ bytes. (length bytes ≤ limit_of (Image name)) × P bytes)
+    held : (o : Option (List ℕ)) → Some size ≡ option_map length o → IfSome o P → IsSomeAnd o (λ bytes. (length bytes ≤ limit_of file) × P bytes)
     held None e q = absurd cc
     held (Some bytes) e q = let same : size ≡ length bytes = cc in (omega (arith, same, within), q)
 
--- the text of what was read is the answer to the file
-pub IsAnswerOf-read : (told : Option Files) (name : List ℕ) (size : ℕ) (r : Result Tables FileRefusal) (status : ℕ) (text : List ℕ) → IsSizeTold told name (Some size) → size ≤ limit_of (Image name)
-    → IfOk r (λ t. IfTold told name (λ image. Describes image t)) → IfErr r (λ e. IfTold told name (λ image. IsFileCauseOf image e)) → IfOk r IsWellFormed → IfOk r (λ t. t.at < 2 ^ 32) → IfErr r (λ e. IfFaultOf e (λ f. f.at < size))
-    → IsTextOf r status text → IsAnswerOf told (Show name) status text
-IsAnswerOf-read told name size (Ok tables) status text is within ok err well low inside h =
-    let read : IsRead told (Image name) (λ image. Describes image tables) = IsRead-told told name size (λ image. Describes image tables) is within ok in
-    inr (((tables, read), tt), (h.0, tables, well, low, read, h.1))
-IsAnswerOf-read told name size (Err refusal.NoPointer) status text is within ok err well low inside h =
-    inl (Image name, inl refl, inr (inr (inl (h.0, IsRead-told told name size HasNoPointer is within err, h.1))))
-IsAnswerOf-read told name size (Err (refusal.Fault f)) status text is within ok err well low inside h =
-    inl (Image name, inl refl, inr (inr (inr (h.0, f.at, f.why, omega (arith, inside, within), IsRead-told told name size (λ image. IsFirstFault image f.at f.why) is within err, h.1))))
-IsAnswerOf-read told name size (Err refusal.Read) status text is within ok err well low inside h = absurd h
-IsAnswerOf-read told name size (Err refusal.NoMemory) status text is within ok err well low inside h = absurd h
+-- where the files are told, a file of a told size within its limit is there
+pub IsRead-there : (told : Option Files) (file : Named) (size : ℕ) → IsSizeTold told (name_of file) (Some size) → size ≤ limit_of file → IsRead told file (λ bytes. Unit {0})
+IsRead-there None file size is within = tt
+IsRead-there (Some files) file size is within = held (files (name_of file)) is
+  where
+    held : (o : Option (List ℕ)) → Some size ≡ option_map length o → IsSomeAnd o (λ bytes. (length bytes ≤ limit_of file) × Unit {0})
+    held None e = absurd cc
+    held (Some bytes) e = let same : size ≡ length bytes = cc in (omega (arith, same, within), tt)
 
--- the text of what was read is never that of an absent file
-pub status-read : (r : Result Tables FileRefusal) (status : ℕ) (text : List ℕ) → IsTextOf r status text → status ≡ 3 → ⊥
-status-read (Ok tables) status text h e = omega (arith, e, h.0)
-status-read (Err refusal.NoPointer) status text h e = omega (arith, e, h.0)
-status-read (Err (refusal.Fault f)) status text h e = omega (arith, e, h.0)
-status-read (Err refusal.Read) status text h e = h
-status-read (Err refusal.NoMemory) status text h e = h
+-- a refusal with this status and line, or want of memory for it
+pub IsEnding-refused : (told : Option Files) (s : Shelves) (file : Named) (answer : Result Answer NoMemoryUnit) (e : Ending) (status : ℕ) (text : List ℕ) → IsRefused told file status text → IsRead told file (λ bytes. Unit {0}) → s.faults_after ≡ s.faults
+    → IfOk answer (λ a. (a.status ≡ status) × (a.text.items ≡ text)) → IfOk answer (λ a. e ≡ Refused a) → IfErr answer (λ m. e ≡ NoMemory) → IsEnding told s file e
+IsEnding-refused told s file (Ok a) e status text refused there kept is ok err =
+    subst (IsEnding told s file) (sym ok) (subst (λ (t : List ℕ). IsRefused told file a.status t) (sym is.1) (subst (λ (n : ℕ). IsRefused told file n text) (sym is.0) refused), kept)
+IsEnding-refused told s file (Err m) e status text refused there kept is ok err = subst (IsEnding told s file) (sym err) (there, kept)
 
--- two members, the first of them a word
-pub two_words : {X : Type 0} (bytes : X → List ℕ) (words : List X) (first second : X) (word : List ℕ) → 2 ≤ length words → length words < 3 → first ≡ get_or words 0 first → second ≡ get_or words 1 second → bytes first ≡ word
-    → map bytes words ≡ word ∷ bytes second ∷ []
-two_words bytes [] first second word low high f s w = absurd (omega arith)
-two_words bytes (x ∷ []) first second word low high f s w = absurd (omega arith)
-two_words bytes (x ∷ y ∷ []) first second word low high f s w = rw (← f, ← s, w) refl
-two_words bytes (x ∷ y ∷ z ∷ zs) first second word low high f s w = absurd (omega arith)
+-- an image with a first fault is refused for it
+pub IsRefused-fault : (told : Option Files) (name : List ℕ) (size at : ℕ) (why : Reason) → IsSizeTold told name (Some size) → size ≤ limit_of (Image name) → at < size → IfTold told name (λ image. IsFirstFault image at why) → IsRefused told (Image name) 7 (fault_line at why)
+IsRefused-fault told name size at why is within inside first =
+    inr (refl, at, why, omega (arith, inside, within), IsRead-told told (Image name) size (λ image. IsFirstFault image at why) is within first, refl)
+
+-- and one without a floating pointer for that
+pub IsRefused-none : (told : Option Files) (name : List ℕ) (size : ℕ) → IsSizeTold told name (Some size) → size ≤ limit_of (Image name) → IfTold told name HasNoPointer → IsRefused told (Image name) 6 no_pointer_line
+IsRefused-none told name size is within none = inl (refl, IsRead-told told (Image name) size HasNoPointer is within none, refl)
+
+-- ---- a listing
+
+-- where the files are told, what holds of the bytes that were read holds of the file
+pub IsRead-bytes : (told : Option Files) (file : Named) (size : ℕ) (bytes : List ℕ) (P : List ℕ → Type 0) → IsSizeTold told (name_of file) (Some size) → size ≤ limit_of file → IfTold told (name_of file) (λ held. held ≡ bytes) → P bytes → IsRead told file P
+IsRead-bytes told file size bytes P is within same p =
+    IsRead-told told file size P is within (IfTold-map told (name_of file) (λ held. held ≡ bytes) P (λ held e. subst P (sym e) p) same)
+
+-- the tables of a listing that was read
+pub GivesTables-listing : (told : Option Files) (name : List ℕ) (size : ℕ) (bytes : List ℕ) (tables : Tables) → IsSizeTold told name (Some size) → size ≤ limit_of (Listing name) → IfTold told name (λ held. held ≡ bytes) → FitsInImage tables → IsListingOf tables bytes → GivesTables told (Listing name) tables
+GivesTables-listing told name size bytes tables is within same fit lists = (fit, IsRead-bytes told (Listing name) size bytes (IsListingOf tables) is within same lists)
+
+-- a listing is refused for the reason that its reader gives
+pub IsRefused-line : (told : Option Files) (name : List ℕ) (size n : ℕ) (bytes : List ℕ) (why : LineWhy) → IsSizeTold told name (Some size) → size ≤ limit_of (Listing name) → IfTold told name (λ held. held ≡ bytes) → IsFirstBadLine IsListing bytes n why → IsRefused told (Listing name) 8 (bad_line_line n why)
+IsRefused-line told name size n bytes why is within same bad = inl (refl, n, why, IsRead-bytes told (Listing name) size bytes (λ listing. IsFirstBadLine IsListing listing n why) is within same bad, refl)
+
+pub IsRefused-unfit : (told : Option Files) (name : List ℕ) (size n : ℕ) (bytes : List ℕ) → IsSizeTold told name (Some size) → size ≤ limit_of (Listing name) → IfTold told name (λ held. held ≡ bytes)
+    → (tables : Tables) × IsListingOf tables bytes × (¬ FitsInImage tables) × (n ≡ block_size tables.body) → IsRefused told (Listing name) 8 (unfit_line n)
+IsRefused-unfit told name size n bytes is within same (tables, lists, not, sum) =
+    inr (refl, tables, IsRead-bytes told (Listing name) size bytes (IsListingOf tables) is within same lists, not, ap unfit_line sum)
+
+-- ---- words
+
+-- two members
+pub two_words : {X : Type 0} (bytes : X → List ℕ) (words : List X) (first second : X) → 2 ≤ length words → length words < 3 → first ≡ get_or words 0 first → second ≡ get_or words 1 second
+    → map bytes words ≡ bytes first ∷ bytes second ∷ []
+two_words bytes [] first second low high f s = absurd (omega arith)
+two_words bytes (x ∷ []) first second low high f s = absurd (omega arith)
+two_words bytes (x ∷ y ∷ []) first second low high f s = rw (← f, ← s) refl
+two_words bytes (x ∷ y ∷ z ∷ zs) first second low high f s = absurd (omega arith)
+
+-- three members
+pub three_words : {X : Type 0} (bytes : X → List ℕ) (words : List X) (first second third : X) → 3 ≤ length words → length words < 4 → first ≡ get_or words 0 first → second ≡ get_or words 1 second → third ≡ get_or words 2 third
+    → map bytes words ≡ bytes first ∷ bytes second ∷ bytes third ∷ []
+three_words bytes [] first second third low high f s t = absurd (omega arith)
+three_words bytes (x ∷ []) first second third low high f s t = absurd (omega arith)
+three_words bytes (x ∷ y ∷ []) first second third low high f s t = absurd (omega arith)
+three_words bytes (x ∷ y ∷ z ∷ []) first second third low high f s t = rw (← f, ← s, ← t) refl
+three_words bytes (x ∷ y ∷ z ∷ w ∷ ws) first second third low high f s t = absurd (omega arith)

@@ -1,4 +1,4 @@
 pub mod DeliveryLemmas
 pub mod AnswerLemmas
 pub mod CauseLemmas
-pub mod WalkLemmas
+pub mod FileLemmas

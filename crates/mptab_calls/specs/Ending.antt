@@ -1,11 +1,11 @@
 -- Why the walk ends at a file, as code says it. Only private functions of the crate cite this.
 --     ending_status e, ending_text name e    the status, and the line for a file of this name
---     IsEnding told before after file e      the walk ends at the file for this reason
+--     IsEnding told s file e                 the walk ends at the file for this reason
 use Rattle.std.specs.Prelude.{◌≡◌, ℕ, List, Option, ⊤}
 use Rattle.mpt_base.specs.Outside.{Files, Rose}
 use Rattle.mptab_calls.specs.declared.ending.Ending.{Ending}
-use Rattle.mptab_calls.specs.declared.ending.Ending.TheVariants.{Absent, TooLarge, Unread, NoPointer, Fault, NoMemory}
-use Rattle.mptab_calls.specs.Texts.{no_file_line, cannot_read_line, no_memory_line, too_large_line, no_pointer_line, fault_line}
+use Rattle.mptab_calls.specs.declared.ending.Ending.TheVariants.{Absent, TooLarge, Unread, Refused, NoMemory}
+use Rattle.mptab_calls.specs.Texts.{no_file_line, cannot_read_line, no_memory_line, too_large_line}
 use Rattle.mptab_calls.specs.Forms.{Named, IsRead}
 use Rattle.mptab_calls.specs.Commands.{IsRefused}
 use Rattle.mptab_calls.specs.Walk.{IsAbsent, IsTooLarge}
@@ -13,16 +13,14 @@ use Rattle.mptab_calls.specs.Walk.{IsAbsent, IsTooLarge}
 abbrev pub ending_status : Ending → ℕ
 ending_status Absent = 3
 ending_status Unread = 4
-ending_status NoPointer = 6
-ending_status (Fault f) = 7
+ending_status (Refused answer) = answer.status
 ending_status NoMemory = 9
 ending_status (TooLarge size) = 10
 
 abbrev pub ending_text : List ℕ → Ending → List ℕ
 ending_text name Absent = no_file_line name
 ending_text name Unread = cannot_read_line name
-ending_text name NoPointer = no_pointer_line
-ending_text name (Fault f) = fault_line f.at f.why
+ending_text name (Refused answer) = answer.text.items
 ending_text name NoMemory = no_memory_line
 ending_text name (TooLarge size) = too_large_line name size
 
@@ -40,7 +38,6 @@ shelves misses misses_after faults faults_after = record { misses = misses; miss
 abbrev pub IsEnding : Option Files → Shelves → Named → Ending → Type 0
 IsEnding told s file Absent = IsAbsent told file × Rose s.misses s.misses_after × (s.faults_after ≡ s.faults)
 IsEnding told s file Unread = Rose s.faults s.faults_after
+IsEnding told s file (Refused answer) = IsRefused told file answer.status answer.text.items × (s.faults_after ≡ s.faults)
 IsEnding told s file NoMemory = IsRead told file (λ bytes. ⊤) × (s.faults_after ≡ s.faults)
 IsEnding told s file (TooLarge size) = IsTooLarge told file size × (s.faults_after ≡ s.faults)
-IsEnding told s file NoPointer = IsRefused told file 6 no_pointer_line × (s.faults_after ≡ s.faults)
-IsEnding told s file (Fault f) = IsRefused told file 7 (fault_line f.at f.why) × (s.faults_after ≡ s.faults)

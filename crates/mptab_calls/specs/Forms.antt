@@ -4,24 +4,42 @@
 --     name_of, limit_of, most_asked  name, limit, and most bytes that are asked for of such a file with so many
 --     IsStill form                   it needs no threads
 --     IsRead told file P             where the files are told, the file is there, within its limit, and P holds of its bytes
-use Rattle.std.specs.Prelude.{◌≡◌, ◌≤◌, ℕ, List, [], ◌∷◌, length, codes, ⊤, Option, IfSome, IsSomeAnd}
+use Rattle.std.specs.Prelude.{◌≡◌, ◌≤◌, ℕ, List, [], ◌∷◌, length, codes, ⊤, Option, Some, IfSome, IsSomeAnd}
 use Rattle.mpt_base.specs.Outside.{Files}
+use Rattle.mpt_answers.specs.Elcr.{elcr_of}
+use Rattle.mptab_calls.specs.declared.words.Command.{Command}
+use Rattle.mptab_calls.specs.declared.words.Command.TheVariants as command
+use Rattle.mptab_calls.specs.declared.words.Source.{Source}
+use Rattle.mptab_calls.specs.declared.words.Source.TheVariants as source
 
 -- a form, with the names of its files
 pub data Form : Type 0 where
   Show : (image : List ℕ) → Form
+  Audit : (image : List ℕ) → Form
+  Canon : (image : List ℕ) → Form
+  Build : (listing : List ℕ) → Form
+  Route : (image : List ℕ) → (elcr : ℕ) → Form
 
 -- a file that a form names, by what it is to be
 pub data Named : Type 0 where
   Image : (name : List ℕ) → Named
+  Listing : (name : List ℕ) → Named
 
 -- the words are this form
 abbrev pub IsForm : Form → List (List ℕ) → Type 0
 IsForm (Show image) words = words ≡ codes "show" ∷ image ∷ []
+IsForm (Audit image) words = words ≡ codes "audit" ∷ image ∷ []
+IsForm (Canon image) words = words ≡ codes "canon" ∷ image ∷ []
+IsForm (Build listing) words = words ≡ codes "build" ∷ listing ∷ []
+IsForm (Route image elcr) words = (word : List ℕ) × (words ≡ codes "route" ∷ image ∷ word ∷ []) × (elcr_of word ≡ Some elcr)
 
 -- the file that gives a form its tables
 abbrev pub source_of : Form → Named
 source_of (Show image) = Image image
+source_of (Audit image) = Image image
+source_of (Canon image) = Image image
+source_of (Build listing) = Listing listing
+source_of (Route image elcr) = Image image
 
 -- the files that a form names, in the order of the words
 abbrev pub files_of : Form → List Named
@@ -29,7 +47,7 @@ files_of form = source_of form ∷ []
 
 -- the form needs no threads
 abbrev pub IsStill : Form → Type 0
-IsStill (Show image) = ⊤
+IsStill form = ⊤
 
 -- the form is listed
 abbrev pub IsAny : Form → Type 0
@@ -37,15 +55,31 @@ IsAny form = ⊤
 
 abbrev pub name_of : Named → List ℕ
 name_of (Image name) = name
+name_of (Listing name) = name
 
--- the most bytes of such a file: 16 MiB of an image
+-- the most bytes of such a file: 16 MiB of an image, 4 MiB of a listing
 abbrev pub limit_of : Named → ℕ
 limit_of (Image name) = 16777216
+limit_of (Listing name) = 4194304
 
--- the most bytes that are asked for of such a file of this size: an image is read by windows
+-- the most bytes that are asked for of such a file of this size: an image is read by windows, a listing once
 abbrev pub most_asked : Named → ℕ → ℕ
 most_asked (Image name) size = 197694
+most_asked (Listing name) size = size
 
 -- where the files are told, the file is there, within its limit, and P holds of its bytes
 abbrev pub IsRead : Option Files → Named → (List ℕ → Type 0) → Type 0
 IsRead told file P = IfSome told (λ files. IsSomeAnd (files (name_of file)) (λ bytes. (length bytes ≤ limit_of file) × P bytes))
+
+-- ---- the same as code says it; private functions cite this
+
+abbrev pub form_of : Command → Form
+form_of (command.Show image) = Show image.now
+form_of (command.Audit image) = Audit image.now
+form_of (command.Canon image) = Canon image.now
+form_of (command.Build listing) = Build listing.now
+form_of (command.Route image elcr) = Route image.now elcr
+
+abbrev pub named_of : Source → Named
+named_of (source.Image name) = Image name.now
+named_of (source.Listing name) = Listing name.now

@@ -4,3 +4,4 @@ pub mod Commands
 pub mod Walk
 pub mod Causes
 pub mod Ending
+pub mod File

@@ -1,9 +1,6 @@
--- The lines of refusals: what the program prints in place of a text. They are this project's own.
+-- The lines of the walk itself: what the program prints in place of a text. They are this project's own.
 use Rattle.std.specs.Prelude.{ℕ, List, [], ◌∷◌, codes, decimal}
-use Rattle.mpt_base.specs.declared.fault.Reason.{Reason}
-use Rattle.mpt_base.specs.declared.fault.Reason.TheVariants as why
-use Rattle.mpt_base.specs.Reason.{reason_number}
-use Rattle.mpt_listing.specs.Listing.{line, hex}
+use Rattle.mpt_listing.specs.Listing.{line}
 
 -- the words are no listed form (status 2)
 abbrev pub usage_line : List ℕ
@@ -17,10 +14,6 @@ no_file_line name = line (codes "mptab: no file " ∷ name ∷ [])
 abbrev pub cannot_read_line : List ℕ → List ℕ
 cannot_read_line name = line (codes "mptab: cannot read " ∷ name ∷ [])
 
--- there is no floating pointer (status 6)
-abbrev pub no_pointer_line : List ℕ
-no_pointer_line = line (codes "mptab: no floating pointer" ∷ [])
-
 -- memory ran out (status 9)
 abbrev pub no_memory_line : List ℕ
 no_memory_line = line (codes "mptab: no memory" ∷ [])
@@ -28,26 +21,3 @@ no_memory_line = line (codes "mptab: no memory" ∷ [])
 -- a file passes its limit (status 10): its name and its length in bytes
 abbrev pub too_large_line : List ℕ → ℕ → List ℕ
 too_large_line name size = line (codes "mptab: too large " ∷ name ∷ codes " " ∷ decimal size ∷ [])
-
--- the name of a reason
-abbrev pub reason_name : Reason → List ℕ
-reason_name why.BadRevision = codes "BadRevision"
-reason_name why.BadDefault = codes "BadDefault"
-reason_name why.NoTable = codes "NoTable"
-reason_name why.TableOutside = codes "TableOutside"
-reason_name why.BadSignature = codes "BadSignature"
-reason_name why.ShortLength = codes "ShortLength"
-reason_name why.LengthOutside = codes "LengthOutside"
-reason_name why.BadSum = codes "BadSum"
-reason_name why.BadCount = codes "BadCount"
-reason_name why.UnknownEntry = codes "UnknownEntry"
-reason_name why.CutEntry = codes "CutEntry"
-reason_name why.ExtOutside = codes "ExtOutside"
-reason_name why.BadExtSum = codes "BadExtSum"
-reason_name why.BadExtType = codes "BadExtType"
-reason_name why.BadExtLength = codes "BadExtLength"
-reason_name why.CutExtEntry = codes "CutExtEntry"
-
--- the tables are refused (status 7): number and name of the first fault's reason, and its offset in the image
-abbrev pub fault_line : ℕ → Reason → List ℕ
-fault_line at reason = line (codes "mptab: fault " ∷ decimal (reason_number reason) ∷ codes " " ∷ reason_name reason ∷ codes " at " ∷ hex 8 at ∷ [])

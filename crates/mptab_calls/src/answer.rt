@@ -1,16 +1,20 @@
 //! What the tables give each form: a status and a text.
 
-ghost use Rattle.std.specs.Prelude.{◌≡◌, ◌<◌, ◌^◌, IfOk};
-ghost use Rattle.mpt_listing.specs.Listing.{listing_of};
-ghost use Rattle.mpt_spec.specs.Canonical.{IsWellFormed};
-ghost use Rattle.mptab_calls.specs.Commands.{IsAnswerTo};
-ghost use Rattle.mptab_calls.specs.Command.{form_of};
+ghost use Rattle.std.specs.Prelude.{◌≡◌, ◌<◌, ◌^◌, [], IfOk};
+ghost use Rattle.mpt_spec.specs.Canonical.{IsWellFormed, FitsInImage};
+ghost use Rattle.mptab_calls.specs.Forms.{Show, Audit, Canon, Build, Route, form_of};
+ghost use Rattle.mptab_calls.specs.Commands.{IsAnswerTo, IsReadyFor};
 
-use crate::status::DONE;
+use crate::refusals::unfit;
+use crate::status::{DONE, FINDINGS};
 use crate::words::Command;
+use mpt_answers::{print_findings, print_routes};
+use mpt_audit::audit;
 use mpt_base::NoMemory;
 use mpt_listing::print;
+use mpt_route::{platform_of, routes};
 use mpt_table::Tables;
+use mpt_write::{block_bytes, canon, fits, write_image};
 use std::alloc::Global;
 
 /// A status and the text that goes with it.
@@ -21,26 +25,70 @@ pub(crate) struct Answer {
 }
 
 /// Status and text that the tables give the form.
-pub(crate) fn answer_to(
-    alloc: Global,
-    command: Command,
-    tables: Tables,
-) -> Result<Answer, NoMemory>
+pub(crate) fn answer_to(alloc: Global, command: Command, tables: Tables) -> Result<Answer, NoMemory>
     requires well_formed { IsWellFormed tables }
     requires low { tables.at < 2 ^ 32 }
-    ensures { IfOk result (λ answer. IsAnswerTo (form_of command) tables answer.status answer.text.items) }
+    requires ready { IsReadyFor (form_of command) tables }
+    ensures { IfOk result (λ answer. IsAnswerTo (form_of command.entry) tables answer.status answer.text.items) }
 {
     match command {
         Command::Show(_) => shown(alloc, &tables),
+        Command::Audit(_) => audited(alloc, &tables),
+        Command::Canon(_) => canonical(alloc, tables),
+        Command::Build(_) => built(alloc, &tables),
+        Command::Route(_, elcr) => routed(alloc, &tables, elcr),
     }
 }
 
 // the listing
 fn shown(alloc: Global, tables: &Tables) -> Result<Answer, NoMemory>
-    ensures { IfOk result (λ answer. (answer.status ≡ 0) × (answer.text.items ≡ listing_of tables.now)) }
+    ensures { IfOk result (λ answer. IsAnswerTo (Show []) tables.now answer.status answer.text.items) }
 {
-    match print(alloc, tables) {
-        Ok(text) => Ok(Answer { status: DONE, text }),
-        Err(_) => Err(NoMemory),
+    let text = print(alloc, tables)?;
+    Ok(Answer { status: DONE, text })
+}
+
+// the findings, and 1 where there is one
+fn audited(alloc: Global, tables: &Tables) -> Result<Answer, NoMemory>
+    requires { IsWellFormed tables.now }
+    ensures { IfOk result (λ answer. IsAnswerTo (Audit []) tables.now answer.status answer.text.items) }
+{
+    let findings = audit(alloc, tables)?;
+    let text = print_findings(alloc, findings.as_slice())?;
+    let status = if findings.is_empty() { DONE } else { FINDINGS };
+    Ok(Answer { status, text })
+}
+
+// the image of the canonical form, or how many bytes don't fit
+fn canonical(alloc: Global, tables: Tables) -> Result<Answer, NoMemory>
+    requires { IsWellFormed tables }
+    ensures { IfOk result (λ answer. IsAnswerTo (Canon []) tables answer.status answer.text.items) }
+{
+    if fits(&tables) {
+        let canonical = canon(alloc, tables)?;
+        let text = write_image(alloc, &canonical)?;
+        Ok(Answer { status: DONE, text })
+    } else {
+        unfit(alloc, block_bytes(&tables))
     }
+}
+
+// the image
+fn built(alloc: Global, tables: &Tables) -> Result<Answer, NoMemory>
+    requires { FitsInImage tables.now }
+    ensures { IfOk result (λ answer. IsAnswerTo (Build []) tables.now answer.status answer.text.items) }
+{
+    let text = write_image(alloc, tables)?;
+    Ok(Answer { status: DONE, text })
+}
+
+// the routes
+fn routed(alloc: Global, tables: &Tables, elcr: u16) -> Result<Answer, NoMemory>
+    requires { IsWellFormed tables.now }
+    ensures { IfOk result (λ answer. IsAnswerTo (Route [] elcr) tables.now answer.status answer.text.items) }
+{
+    let platform = platform_of(alloc, tables)?;
+    let answers = routes(alloc, &platform, elcr)?;
+    let text = print_routes(alloc, answers.as_slice())?;
+    Ok(Answer { status: DONE, text })
 }

@@ -8,7 +8,8 @@ ghost use Rattle.mptab_calls.specs.Commands.{GivesTables};
 ghost use Rattle.mptab_calls.specs.Walk.{most_of};
 ghost use Rattle.mptab_calls.specs.Ending.{IsEnding, shelves};
 
-use crate::ending::Ending;
+use crate::ending::{Ending, refused};
+use crate::refusals::{first_fault, no_pointer};
 use mpt_base::{Failed, Shelf};
 use mpt_table::{FileRefusal, Tables, read_from};
 use std::alloc::Global;
@@ -23,7 +24,7 @@ pub(crate) fn take_image<S: Shelf>(
     shelf: &mut S,
 ) -> Result<Tables, Ending>
     ensures files_stay { S.files shelf.new ≡ S.files shelf.old }
-    ensures heard { IfOk result (λ t. S.faults shelf.new ≡ S.faults shelf.old) }
+    ensures unfailed { IfOk result (λ t. S.faults shelf.new ≡ S.faults shelf.old) }
     ensures tables { IfOk result (λ t. GivesTables (S.files shelf.old) (Image name.now) t) }
     ensures well_formed { IfOk result IsWellFormed }
     ensures low { IfOk result (λ t. t.at < 2 ^ 32) }
@@ -50,7 +51,7 @@ fn image_of_size<S: Shelf>(
     requires told { IsSizeTold (S.files shelf.old) name.now (Some size) }
     requires within { size ≤ limit_of (Image name.now) }
     ensures files_stay { S.files shelf.new ≡ S.files shelf.old }
-    ensures heard { IfOk result (λ t. S.faults shelf.new ≡ S.faults shelf.old) }
+    ensures unfailed { IfOk result (λ t. S.faults shelf.new ≡ S.faults shelf.old) }
     ensures tables { IfOk result (λ t. GivesTables (S.files shelf.old) (Image name.now) t) }
     ensures well_formed { IfOk result IsWellFormed }
     ensures low { IfOk result (λ t. t.at < 2 ^ 32) }
@@ -61,8 +62,8 @@ fn image_of_size<S: Shelf>(
 {
     match read_from(alloc, shelf, name, size) {
         Ok(tables) => Ok(tables),
-        Err(FileRefusal::NoPointer) => Err(Ending::NoPointer),
-        Err(FileRefusal::Fault(fault)) => Err(Ending::Fault(fault)),
+        Err(FileRefusal::NoPointer) => Err(refused(no_pointer(alloc))),
+        Err(FileRefusal::Fault(fault)) => Err(refused(first_fault(alloc, fault))),
         Err(FileRefusal::Read) => Err(Ending::Unread),
         Err(FileRefusal::NoMemory) => Err(Ending::NoMemory),
     }

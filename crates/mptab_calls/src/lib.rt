@@ -2,10 +2,17 @@
 //! delivery of the answer.
 #![tactic(auto)]
 
+mod answer;
 mod calls;
 mod delivery;
+mod ending;
+mod file;
+mod giving;
 mod image;
-mod show;
+mod listing;
+mod refusals;
+mod source;
 mod status;
+mod words;
 
 pub use calls::{run, run_still};

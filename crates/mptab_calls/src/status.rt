@@ -2,6 +2,8 @@
 
 /// The defined text was written.
 pub(crate) const DONE: u8 = 0;
+/// The audit has findings.
+pub(crate) const FINDINGS: u8 = 1;
 /// The words are no listed form.
 pub(crate) const USAGE: u8 = 2;
 /// A file isn't there.
@@ -14,6 +16,8 @@ pub(crate) const CANNOT_WRITE: u8 = 5;
 pub(crate) const NO_POINTER: u8 = 6;
 /// The tables are refused.
 pub(crate) const REFUSED: u8 = 7;
+/// The listing is refused, or the tables don't fit.
+pub(crate) const NOT_LISTED: u8 = 8;
 /// Memory ran out.
 pub(crate) const NO_MEMORY: u8 = 9;
 /// A file passes its limit.

@@ -4,8 +4,8 @@
 --     HaveOneText words       so it is of the form of these words
 use Rattle.std.specs.Prelude.{ℕ, List, IfSome, ⊤}
 use Rattle.mpt_base.specs.Outside.{Files}
-use Rattle.mpt_laws.specs.Values.{IsByteList}
-use Rattle.mptab_calls.specs.Forms.{Form, Show, IsForm}
+use Rattle.mpt_base.specs.Bytes.{IsByteList}
+use Rattle.mptab_calls.specs.Forms.{Form, IsForm}
 
 -- each file is a list of bytes
 abbrev pub AreBytesTold : Files → Type 0
@@ -13,7 +13,7 @@ AreBytesTold files = (name : List ℕ) → IfSome (files name) IsByteList
 
 -- the form's text is one
 abbrev pub HasOneText : Form → Type 0
-HasOneText (Show image) = ⊤
+HasOneText form = ⊤
 
 -- words of a form whose text is one, or of none
 abbrev pub HaveOneText : List (List ℕ) → Type 0

@@ -4,8 +4,8 @@ ghost use Rattle.std.specs.Prelude.{◌≡◌, ◌≤◌, ℕ, List, length, Som
 ghost use Rattle.mpt_base.specs.Outside.{Files};
 ghost use Rattle.mpt_base.specs.declared.fault.Reason.{Reason};
 ghost use Rattle.mpt_spec.specs.Faults.{IsFirstFault};
-ghost use Rattle.mptab_calls.specs.Texts.{fault_line};
-ghost use Rattle.mptab_calls.specs.Forms.{Show, IsForm, IsAny, IsStill, IsRead, Image};
+ghost use Rattle.mptab_calls.specs.Commands.{fault_line};
+ghost use Rattle.mptab_calls.specs.Forms.{Form, IsForm, IsAny, IsStill, IsRead, Image, source_of};
 ghost use Rattle.mptab_calls.specs.Walk.{IsAnswer};
 ghost use Rattle.mptab_laws.specs.Laws.{AreBytesTold, HaveOneText};
 
@@ -27,9 +27,14 @@ pub fn answer_is_one()
         → (s ≡ u) × (t ≡ v) }
 {}
 
-/// An image with a first fault has the answer 7.
+/// A form whose tables an image is to give, and that has a first fault, has the answer 7.
 pub fn first_fault_is_answered()
-    ensures { (files : Files) (words : List (List ℕ)) (name : List ℕ) (at : ℕ) (why : Reason)
-        → IsForm (Show name) words → IsRead (Some files) (Image name) (λ image. IsFirstFault image at why)
+    ensures any { (files : Files) (words : List (List ℕ)) (form : Form) (name : List ℕ) (at : ℕ) (why : Reason)
+        → IsForm form words → source_of form ≡ Image name
+        → IsRead (Some files) (Image name) (λ image. IsFirstFault image at why)
+        → IsAnswer IsAny (Some files) words 7 (fault_line at why) }
+    ensures still { (files : Files) (words : List (List ℕ)) (form : Form) (name : List ℕ) (at : ℕ) (why : Reason)
+        → IsStill form → IsForm form words → source_of form ≡ Image name
+        → IsRead (Some files) (Image name) (λ image. IsFirstFault image at why)
         → IsAnswer IsStill (Some files) words 7 (fault_line at why) }
 {}

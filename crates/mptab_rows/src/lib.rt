@@ -5,6 +5,8 @@
 #[cfg(test)]
 mod board;
 #[cfg(test)]
+mod commands;
+#[cfg(test)]
 mod failing;
 #[cfg(test)]
 mod faults;
@@ -14,5 +16,9 @@ mod harness;
 mod sizes;
 #[cfg(test)]
 mod tables;
+#[cfg(test)]
+mod usual;
+#[cfg(test)]
+mod windows;
 #[cfg(test)]
 mod worked;

@@ -1,4 +1,4 @@
-use Rattle.mpt_laws.proofs.CanonicalLemmas.{IsCanonical-canonical_of, canonical_of-twice, canonical_of-canonical, IsTablesValue-canonical_of, FitsInImage-canonical_of}
+use Rattle.mpt_spec.proofs.CanonicalLemmas.{IsCanonical-canonical_of, canonical_of-twice, canonical_of-canonical, IsTablesValue-canonical_of, FitsInImage-canonical_of}
 use Rattle.mpt_laws.proofs.laws.canonical_form_is_canonical.Goals as goal
 
 pub returns-clause-canonical : goal.returns-clause-canonical

@@ -1,5 +1,5 @@
-use Rattle.mpt_laws.proofs.WellFormedLemmas.{Describes-well_formed, Describes-below_4_gib}
-use Rattle.mpt_laws.proofs.ValueLemmas.{Describes-value}
+use Rattle.mpt_spec.proofs.WellFormedLemmas.{Describes-well_formed, Describes-below_4_gib}
+use Rattle.mpt_spec.proofs.ValueLemmas.{Describes-value}
 use Rattle.mpt_laws.proofs.laws.described_tables_are_well_formed.Goals as goal
 
 pub returns-clause-well_formed : goal.returns-clause-well_formed

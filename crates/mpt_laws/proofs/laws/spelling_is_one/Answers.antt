@@ -1,4 +1,4 @@
-use Rattle.mpt_laws.proofs.SpellingLemmas.{IsBaseEntryAt-spelled, IsExtEntryAt-spelled, IsConfigurationTable-spelled, IsFloatingPointer-spelled}
+use Rattle.mpt_spec.proofs.SpellingLemmas.{IsBaseEntryAt-spelled, IsExtEntryAt-spelled, IsConfigurationTable-spelled, IsFloatingPointer-spelled}
 use Rattle.mpt_laws.proofs.laws.spelling_is_one.Goals as goal
 
 pub returns-clause-table : goal.returns-clause-table

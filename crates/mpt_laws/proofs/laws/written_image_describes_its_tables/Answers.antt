@@ -1,4 +1,4 @@
-use Rattle.mpt_laws.proofs.WrittenImageLemmas.{length-image_of, Describes-image_of}
+use Rattle.mpt_spec.proofs.WrittenImageLemmas.{length-image_of, Describes-image_of}
 use Rattle.mpt_laws.proofs.laws.written_image_describes_its_tables.Goals as goal
 
 pub returns-clause-size : goal.returns-clause-size

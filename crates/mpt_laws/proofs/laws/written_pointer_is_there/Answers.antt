@@ -1,4 +1,4 @@
-use Rattle.mpt_laws.proofs.WrittenLemmas.{IsFloatingPointer-written}
+use Rattle.mpt_spec.proofs.WrittenLemmas.{IsFloatingPointer-written}
 use Rattle.mpt_laws.proofs.laws.written_pointer_is_there.Goals as goal
 
 pub returns : goal.returns

@@ -1,6 +1,6 @@
 use Rattle.std.proofs.Common.{◌++◌, refl}
 use Rattle.mpt_spec.specs.Image.{table_bytes}
-use Rattle.mpt_laws.proofs.WrittenTableLemmas.{IsConfigurationTable-written}
+use Rattle.mpt_spec.proofs.WrittenTableLemmas.{IsConfigurationTable-written}
 use Rattle.mpt_laws.proofs.laws.written_table_is_there.Goals as goal
 
 pub returns : goal.returns

@@ -1,4 +1,4 @@
-use Rattle.std.proofs.Common.{refl, arith}
+use Rattle.std.proofs.Common.{refl}
 use Rattle.mpt_table.proofs.PointerFaults.{none_before_no_table, none_before_table_outside, none_before_revision, none_before_default}
 use Rattle.mpt_table.proofs.pointer_fault.pointer_fault.Goals as goal
 

@@ -1,5 +1,5 @@
 use Rattle.std.proofs.Common.{arith}
-use Rattle.mpt_spec.proofs.WellFormedTable.{IsConfigurationTable-well_formed}
+use Rattle.mpt_spec.proofs.WellFormedLemmas.{IsConfigurationTable-well_formed}
 use Rattle.mpt_table.proofs.table_from.table_in.Goals as goal
 
 pub returns-in-Ok-clause-well_formed : goal.returns-in-Ok-clause-well_formed

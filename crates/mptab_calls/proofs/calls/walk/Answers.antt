@@ -1,6 +1,6 @@
-use Rattle.std.proofs.Common.{inr}
-use Rattle.mptab_calls.specs.Forms.{Show}
+use Rattle.std.proofs.Common.{refl, inl}
+use Rattle.mptab_calls.specs.Texts.{usage_line}
 use Rattle.mptab_calls.proofs.calls.walk.Goals as goal
 
-pub returns-in-Some-clause-asks : goal.returns-in-Some-clause-asks
-returns-in-Some-clause-asks g c = inr (Show c.in-Some.name.now, tt, c.in-Some.ensures, c.show.ensures.asks)
+pub returns-in-None-clause-answer : goal.returns-in-None-clause-answer
+returns-in-None-clause-answer g c = (2, usage_line, inl ((c.in-None.ensures, refl, refl), refl), c.deliver_line.ensures)

@@ -1,4 +1,4 @@
-use Rattle.std.proofs.Common.{◌≡◌, ◌∙◌, ap, sym, arith, not}
+use Rattle.std.proofs.Common.{◌∙◌, ap, sym, arith, not}
 use Rattle.mpb_spec.proofs.NumberLemmas.{IsAscending-with, AllBelow-with}
 use Rattle.mpb_lapic.proofs.PlaceLemmas.{at_index, insert_at_place, has_room}
 use Rattle.mpb_lapic.proofs.vectors.Vectors.put.Goals as goal

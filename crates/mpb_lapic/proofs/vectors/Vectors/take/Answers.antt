@@ -1,4 +1,4 @@
-use Rattle.std.proofs.Common.{◌≡◌, ◌∙◌, ap, sym, arith, not}
+use Rattle.std.proofs.Common.{◌∙◌, sym}
 use Rattle.mpb_spec.proofs.NumberLemmas.{IsAscending-without, AllBelow-without}
 use Rattle.mpb_lapic.proofs.PlaceLemmas.{at_index, insert_at_place}
 use Rattle.mpb_lapic.proofs.vectors.Vectors.take.Goals as goal

@@ -1,0 +1,29 @@
+use Rattle.std.proofs.Common.{◌≡◌, ◌++◌, ◌∷◌, [], List, length, map, take, drop, get_or, sym, ap, ◌∙◌, arith}
+use Rattle.std.proofs.lemmas.List.{length-map}
+use Rattle.atomic_table.specs.Seated.{TableId}
+use Rattle.mpb_latch.specs.declared.view.DeviceView.{DeviceView}
+use Rattle.mpb_latch.specs.Seats.{DeviceSeat, fresh_device_seat}
+use Rattle.mpb_latch.specs.Rule.{fresh_device, no_device, shown_device, without_device}
+use Rattle.mpb_latch.proofs.Starts.{map_one_more, first_of_rest, rest_of_rest}
+use Rattle.mpb_latch.proofs.opening.device_seats.Goals as goal
+
+pub loop-plan-preserved : goal.loop-plan-preserved
+loop-plan-preserved c =
+    let plans = c.args.plans.now in
+    let i = c.loop-plan.plan-index in
+    let plan = c.plan-item.result in
+    let id = c.args.table.now.shared.table_id in
+    let start = c.args.all.now.me in
+    let inv = c.loop-plan.invariant in
+    let t = c.loop-plan-test.true in
+    let first = ap (λ m. get_or m.0.devices 0 no_device) inv.1 ∙ first_of_rest (λ p. fresh_device p.items) plans i plan no_device t c.plan-item.is in
+    let seat = c.cut_device-seat.ensures.seat ∙ ap (λ (d : DeviceView). shown_device c.loop-plan.all.table_id d) first ∙ ap (λ (z : TableId). shown_device z (fresh_device plan.items)) (inv.0 ∙ c.requires.table.0) in (
+      c.cut_device-seat.ensures.left.0 ∙ inv.0,
+      c.cut_device-seat.ensures.left.1
+          ∙ ap (λ m. (without_device m.0, m.1)) inv.1
+          ∙ ap (λ (l : List DeviceView). (record { devices = l; collectors = start.0.collectors }, start.1)) (rest_of_rest (map (λ p. fresh_device p.items) plans) i no_device (let n = length-map plans (λ p. fresh_device p.items) in omega arith)),
+      c.in-Ok-push.ensures.items
+          ∙ ap (λ (l : List DeviceSeat). l ++ c.cut_device-seat.result ∷ []) inv.2
+          ∙ ap (λ (s : DeviceSeat). take i (map (λ p. fresh_device_seat id p.items) plans) ++ s ∷ []) seat
+          ∙ sym (map_one_more (λ p. fresh_device_seat id p.items) plans i plan t c.plan-item.is),
+    )

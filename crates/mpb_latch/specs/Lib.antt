@@ -1,0 +1,4 @@
+pub mod Pulses
+pub mod PlainLatch
+pub mod Seats
+pub mod Rule

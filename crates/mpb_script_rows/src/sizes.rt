@@ -1,0 +1,76 @@
+//! How many words a script may have, and want of memory.
+
+use crate::harness::answer_line;
+use std::alloc::Global;
+use std::test::Fail;
+
+/// The text of a script with as many words for a processor and for a device. The first key is this one.
+fn script_of(
+    alloc: Global,
+    first: &str,
+    cpu: (usize, &str),
+    device: (usize, &str),
+) -> Result<Vec<u8>, Fail> {
+    let mut text = Vec::from_slice(alloc, first.as_bytes())?;
+    text.extend_from_slice(b"\n[[cpu]]\nid = 0\nwords = [")?;
+    push_words(&mut text, cpu)?;
+    text.extend_from_slice(b"]\n[[device]]\nwords = [")?;
+    push_words(&mut text, device)?;
+    text.extend_from_slice(b"]\n")?;
+    Ok(text)
+}
+
+/// Writes a word as often as is said.
+fn push_words(text: &mut Vec<u8>, words: (usize, &str)) -> Result<(), Fail> {
+    for _ in 0..words.0 {
+        text.extend_from_slice(b"\"")?;
+        text.extend_from_slice(words.1.as_bytes())?;
+        text.extend_from_slice(b"\",")?;
+    }
+    Ok(())
+}
+
+/// One script: its first key, words of the processor and of the device, the answer.
+type Sizes = (
+    &'static str,
+    (usize, &'static str),
+    (usize, &'static str),
+    &'static str,
+);
+
+const SIZES: &[Sizes] = &[
+    ("page = 1", (8192, "take"), (0, ""), "script"),
+    ("page = 1", (8193, "take"), (0, ""), "many 8193"),
+    ("page = 1", (0, ""), (8192, "low 0 0"), "script"),
+    ("page = 1", (0, ""), (8193, "low 0 0"), "many 8193"),
+    ("page = 1", (4096, "eoi"), (4096, "low 0 0"), "script"),
+    ("page = 1", (4096, "eoi"), (4097, "low 0 0"), "many 8193"),
+    ("page = 1", (9000, "jump"), (1, "jump"), "many 9001"),
+    ("page = 160", (9000, "take"), (1, "jump"), "key page"),
+    (
+        "page = 1",
+        (8191, "take"),
+        (1, "jump"),
+        "word dev 0 index 0 Name",
+    ),
+];
+
+#[test]
+fn counts_of_words(rt: HostRuntime) -> Result<(), Fail> {
+    for (first, cpu, device, line) in SIZES {
+        let text = script_of(rt.alloc(), first, *cpu, *device)?;
+        let answer = answer_line(rt.alloc(), text.as_slice())?;
+        assert_eq!(rt; answer.as_str(), *line);
+    }
+    Ok(())
+}
+
+/// It passes too where an allocation fails: the answer is then want of memory.
+#[test]
+fn want_of_memory(rt: HostRuntime) -> Result<(), Fail> {
+    let text =
+        b"page = 1\npresent = [0]\ncpu = [{ id = 0, words = [\"ipi 0 48\"] }]\ndevice = [{ words = [\"low 0 0\"] }]";
+    let line = answer_line(rt.alloc(), text)?;
+    assert!(rt; line.as_str() == "script" || line.as_str() == "no memory");
+    Ok(())
+}

@@ -1,0 +1,5 @@
+pub mod Numbers
+pub mod Words
+pub mod Values
+pub mod Answers
+pub mod Steps

@@ -1,0 +1,133 @@
+//! What a word says.
+
+ghost use Rattle.std.specs.Prelude.{◌≡◌, ◌≤◌, Ok, IfOk, IfErr, map, slice_index};
+ghost use Rattle.mpb_words.specs.Words.{parts_of, cpu_op_of, cpu_op_in, cpu_op, cpu_limits, device_word_of, device_word_in, device_word, device_limits};
+ghost use Rattle.mpb_words.specs.Values.{IsCpuWord, IsDeviceWord};
+ghost use Rattle.mpb_words.specs.Answers.{IsCauseOf};
+
+use crate::names::{CpuName, DeviceName, cpu_limits, cpu_name, device_limits, device_name};
+use crate::numbers::numbers;
+use crate::refusal::{Stop, WordWhy};
+use mpb_spec::{DevWord, Op};
+use std::alloc::{AllocError, Global};
+
+// a word, cut at each of its spaces
+fn parts(alloc: Global, word: &str) -> Result<Vec<&str>, AllocError>
+    ensures { IfOk result (λ v. map (λ part. part.now) v.items ≡ parts_of word.now) }
+{
+    word.split(' ').collect(alloc)
+}
+
+/// Reads a word of a processor.
+///
+/// A word is a name and its numbers, parted by one space: `ipi D V`, `nmi D`, `take`, `poll`, `eoi`,
+/// `tpr N`, `iosel A R`, `iowin A V`, `ioread A` or `pause US`. D, V, N and R are up to 255, A is an
+/// I/O APIC's place up to 3, iowin's V a `u32`, US microseconds up to 1,000,000. A number is decimal
+/// without leading zeros, or `0x` and one to eight hexadecimal digits.
+///
+/// # Errors
+///
+/// The first of the causes for which the word is wrong, or want of memory for its parts.
+#[tactic(auto, unfolding(crate::specs::Words::cpu_op_of))]
+pub fn read_cpu_word(alloc: Global, word: &str) -> Result<Op, Stop>
+    ensures says { IfOk result (λ op. cpu_op_of word.now ≡ Ok op) }
+    ensures values { IfOk result IsCpuWord }
+    ensures refused { IfErr result (IsCauseOf (cpu_op_of word.now)) }
+{
+    match parts(alloc, word) {
+        Ok(parts) => match cpu_op(parts.as_slice()) {
+            Ok(op) => Ok(op),
+            Err(why) => Err(Stop::Wrong(why)),
+        },
+        Err(_) => Err(Stop::NoMemory),
+    }
+}
+
+// what the parts of a processor's word say
+fn cpu_op(parts: &[&str]) -> Result<Op, WordWhy>
+    ensures { result ≡ cpu_op_in (map (λ part. part.now) parts.now) }
+{
+    match parts {
+        [text, rest @ ..] => match cpu_name(text) {
+            Some(name) => match numbers(rest, cpu_limits(name)) {
+                Ok((a, b)) => Ok(named_op(name, a, b)),
+                Err(why) => Err(why),
+            },
+            None => Err(WordWhy::Name),
+        },
+        [] => Err(WordWhy::Name),
+    }
+}
+
+// the operation of a name and its numbers
+fn named_op(name: CpuName, a: u32, b: u32) -> Op
+    requires first { a ≤ slice_index (cpu_limits name) 0 }
+    requires second { b ≤ slice_index (cpu_limits name) 1 }
+    ensures { result ≡ cpu_op name a b }
+{
+    match name {
+        CpuName::Ipi => Op::Ipi(a as u8, b as u8),
+        CpuName::Nmi => Op::Nmi(a as u8),
+        CpuName::Take => Op::Take,
+        CpuName::Poll => Op::Poll,
+        CpuName::Eoi => Op::Eoi,
+        CpuName::Tpr => Op::Tpr(a as u8),
+        CpuName::IoSel => Op::IoSel(a as u8, b as u8),
+        CpuName::IoWin => Op::IoWin(a as u8, b),
+        CpuName::IoRead => Op::IoRead(a as u8),
+        CpuName::Pause => Op::Pause(a),
+    }
+}
+
+/// Reads a word of a device.
+///
+/// A word is a name and its numbers, parted by one space: `pulse A PIN`, `high A PIN` or `low A PIN`.
+/// A is an I/O APIC's place up to 3, PIN one of its pins up to 23. Numbers are written as in a
+/// processor's word.
+///
+/// # Errors
+///
+/// The first of the causes for which the word is wrong, or want of memory for its parts.
+#[tactic(auto, unfolding(crate::specs::Words::device_word_of))]
+pub fn read_device_word(alloc: Global, word: &str) -> Result<DevWord, Stop>
+    ensures says { IfOk result (λ said. device_word_of word.now ≡ Ok said) }
+    ensures values { IfOk result IsDeviceWord }
+    ensures refused { IfErr result (IsCauseOf (device_word_of word.now)) }
+{
+    match parts(alloc, word) {
+        Ok(parts) => match device_word(parts.as_slice()) {
+            Ok(word) => Ok(word),
+            Err(why) => Err(Stop::Wrong(why)),
+        },
+        Err(_) => Err(Stop::NoMemory),
+    }
+}
+
+// what the parts of a device's word say
+fn device_word(parts: &[&str]) -> Result<DevWord, WordWhy>
+    ensures { result ≡ device_word_in (map (λ part. part.now) parts.now) }
+{
+    match parts {
+        [text, rest @ ..] => match device_name(text) {
+            Some(name) => match numbers(rest, device_limits(name)) {
+                Ok((a, b)) => Ok(named_word(name, a, b)),
+                Err(why) => Err(why),
+            },
+            None => Err(WordWhy::Name),
+        },
+        [] => Err(WordWhy::Name),
+    }
+}
+
+// the word of a name and its numbers
+fn named_word(name: DeviceName, a: u32, b: u32) -> DevWord
+    requires first { a ≤ slice_index (device_limits name) 0 }
+    requires second { b ≤ slice_index (device_limits name) 1 }
+    ensures { result ≡ device_word name a b }
+{
+    match name {
+        DeviceName::Pulse => DevWord::Pulse(a as u8, b as u8),
+        DeviceName::High => DevWord::High(a as u8, b as u8),
+        DeviceName::Low => DevWord::Low(a as u8, b as u8),
+    }
+}

@@ -1,0 +1,3 @@
+pub mod RouteLines
+pub mod FindingLines
+pub mod Elcr

@@ -1,0 +1,4 @@
+pub mod OtherLemmas
+pub mod FindingLemmas
+pub mod SizeLemmas
+pub mod OneLemmas

@@ -1,0 +1,11 @@
+pub mod HexLemmas
+pub mod ManyLemmas
+pub mod RunLemmas
+pub mod Exact
+pub mod Digits
+pub mod ByteValues
+pub mod BaseForms
+pub mod TableForms
+pub mod RestForms
+pub mod ExtForms
+pub mod CallerLemmas

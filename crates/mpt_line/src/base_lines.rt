@@ -1,0 +1,124 @@
+//! The lines of base entries, each read from the left.
+
+ghost use Rattle.std.specs.Prelude.{◌≡◌, IfSome, IfNone};
+ghost use Rattle.mpt_spec.specs.Values.{IsBaseValue};
+ghost use Rattle.mpt_listing.specs.Listing.{base_line};
+ghost use Rattle.mpt_line.specs.Reading.{Gives};
+ghost use Rattle.mpt_line.specs.Forms.{processor_in, bus_in, io_apic_in, interrupt_in, base_in};
+ghost use Rattle.mpt_line.specs.Lines.{BeginsWith, BeginsWithNone};
+
+use crate::byte_fields::{read_bytes_field, read_quoted_field};
+use crate::fields::{read_end, read_part, read_u8_field, read_u16_field, read_u32_field};
+use mpt_spec::{Base, Bus, IntEntry, IoApic, Processor};
+
+/// The base entry whose line begins the text, and what follows that line; `None` exactly where the text
+/// begins with the line of none.
+pub fn read_base_line(text: &[u8]) -> Option<(Base, &[u8])>
+    ensures some { IfSome result (λ x. BeginsWith base_line IsBaseValue text.now x.0 x.1.now) }
+    ensures none { IfNone result (BeginsWithNone base_line IsBaseValue text.now) }
+{
+    read_base(text)
+}
+
+// The first of the five forms that reads.
+#[tactic(auto, unfolding(crate::specs::Forms::base_in))]
+fn read_base(line: &[u8]) -> Option<(Base, &[u8])>
+    ensures { Gives (λ x. (x.0, x.1.now)) result (base_in line.now) }
+{
+    if let Some((entry, rest)) = read_processor(line) {
+        return Some((Base::Processor(entry), rest));
+    }
+    if let Some((entry, rest)) = read_bus(line) {
+        return Some((Base::Bus(entry), rest));
+    }
+    if let Some((entry, rest)) = read_io_apic(line) {
+        return Some((Base::IoApic(entry), rest));
+    }
+    if let Some((entry, rest)) = read_interrupt(line, b"ioint") {
+        return Some((Base::IoInt(entry), rest));
+    }
+    let (entry, rest) = read_interrupt(line, b"localint")?;
+    Some((Base::LocalInt(entry), rest))
+}
+
+#[tactic(auto, unfolding(crate::specs::Forms::processor_in))]
+fn read_processor(line: &[u8]) -> Option<(Processor, &[u8])>
+    ensures { Gives (λ x. (x.0, x.1.now)) result (processor_in line.now) }
+{
+    let (apic, rest) = read_u8_field(line, b"processor id ")?;
+    let (version, rest) = read_u8_field(rest, b" version ")?;
+    let (flags, rest) = read_u8_field(rest, b" flags ")?;
+    let (signature, rest) = read_u32_field(rest, b" signature ")?;
+    let (features, rest) = read_u32_field(rest, b" features ")?;
+    let mut reserved = [0; 8];
+    let rest = read_bytes_field(&mut reserved, rest, b" reserved ")?;
+    let rest = read_end(rest)?;
+    Some((
+        Processor {
+            apic,
+            version,
+            flags,
+            signature,
+            features,
+            reserved,
+        },
+        rest,
+    ))
+}
+
+#[tactic(auto, unfolding(crate::specs::Forms::bus_in))]
+fn read_bus(line: &[u8]) -> Option<(Bus, &[u8])>
+    ensures { Gives (λ x. (x.0, x.1.now)) result (bus_in line.now) }
+{
+    let (id, rest) = read_u8_field(line, b"bus id ")?;
+    let mut name = [0; 6];
+    let rest = read_quoted_field(&mut name, rest, b" name ")?;
+    let rest = read_end(rest)?;
+    Some((Bus { id, name }, rest))
+}
+
+#[tactic(auto, unfolding(crate::specs::Forms::io_apic_in))]
+fn read_io_apic(line: &[u8]) -> Option<(IoApic, &[u8])>
+    ensures { Gives (λ x. (x.0, x.1.now)) result (io_apic_in line.now) }
+{
+    let (id, rest) = read_u8_field(line, b"ioapic id ")?;
+    let (version, rest) = read_u8_field(rest, b" version ")?;
+    let (flags, rest) = read_u8_field(rest, b" flags ")?;
+    let (address, rest) = read_u32_field(rest, b" address ")?;
+    let rest = read_end(rest)?;
+    Some((
+        IoApic {
+            id,
+            version,
+            flags,
+            address,
+        },
+        rest,
+    ))
+}
+
+// An interrupt entry behind a word that says whether it is I/O or local
+#[tactic(auto, unfolding(crate::specs::Forms::interrupt_in))]
+fn read_interrupt<'a>(line: &'a [u8], word: &[u8]) -> Option<(IntEntry, &'a [u8])>
+    ensures { Gives (λ x. (x.0, x.1.now)) result (interrupt_in word.now line.now) }
+{
+    let rest = read_part(line, word)?;
+    let (kind, rest) = read_u8_field(rest, b" kind ")?;
+    let (flags, rest) = read_u16_field(rest, b" flags ")?;
+    let (bus, rest) = read_u8_field(rest, b" bus ")?;
+    let (irq, rest) = read_u8_field(rest, b" irq ")?;
+    let (dest, rest) = read_u8_field(rest, b" dest ")?;
+    let (pin, rest) = read_u8_field(rest, b" pin ")?;
+    let rest = read_end(rest)?;
+    Some((
+        IntEntry {
+            kind,
+            flags,
+            bus,
+            irq,
+            dest,
+            pin,
+        },
+        rest,
+    ))
+}

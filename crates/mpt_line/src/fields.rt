@@ -1,0 +1,142 @@
+//! The parts of a line, each read from the left: texts, digits, numbers and bytes in quotes.
+
+ghost use Rattle.std.specs.Prelude.{◌≡◌, ◌≢◌, ◌≤◌, ◌<◌, ◌^◌, ◌++◌, ◌∷◌, [], ℕ, List, IfSome, IfNone};
+ghost use Rattle.mpt_listing.specs.Listing.{is_plain_byte};
+ghost use Rattle.mpt_line.specs.Reading.{Gives, text_in, digit_of, digit_in, hex_in, escaped_in, quoted_byte_in, field_in};
+
+/// What follows a text, `None` exactly where the line doesn't begin with it.
+pub fn read_text<'a>(line: &'a [u8], text: &[u8]) -> Option<&'a [u8]>
+    ensures some { IfSome result (λ rest. line.now ≡ text.now ++ rest.now) }
+    ensures none { IfNone result ((rest : List ℕ) → line.now ≢ text.now ++ rest) }
+{
+    read_part(line, text)
+}
+
+/// What follows a text.
+#[tactic(auto, unfolding(crate::specs::Reading::text_in))]
+pub(crate) fn read_part<'a>(line: &'a [u8], text: &[u8]) -> Option<&'a [u8]>
+    ensures { Gives (λ rest. rest.now) result (text_in text.now line.now) }
+{
+    line.strip_prefix(text)
+}
+
+// What an upper case digit stands for.
+fn digit_of(digit: u8) -> Option<u8>
+    ensures { result ≡ digit_of digit }
+{
+    match digit {
+        b'0'..=b'9' => Some(digit - b'0'),
+        b'A'..=b'F' => Some(digit - b'A' + 10),
+        _ => None,
+    }
+}
+
+// The value of a first digit.
+#[tactic(auto, unfolding(crate::specs::Reading::digit_in))]
+fn read_digit(line: &[u8]) -> Option<(u8, &[u8])>
+    ensures value { Gives (λ x. (x.0, x.1.now)) result (digit_in line.now) }
+    ensures bound { IfSome result (λ x. x.0 < 16) }
+{
+    let (first, rest) = line.split_first()?;
+    let digit = digit_of(*first)?;
+    Some((digit, rest))
+}
+
+// The number of this many digits.
+#[tactic(auto, unfolding(crate::specs::Reading::hex_in))]
+fn read_hex(line: &[u8], digits: u32) -> Option<(u64, &[u8])>
+    requires { digits ≤ 16 }
+    ensures value { Gives (λ x. (x.0, x.1.now)) result (hex_in digits line.now) }
+    ensures bound { IfSome result (λ x. x.0 < 16 ^ digits) }
+{
+    if digits == 0 {
+        return Some((0, line));
+    }
+    let (high, rest) = read_hex(line, digits - 1)?;
+    let (low, rest) = read_digit(rest)?;
+    Some((16 * high + u64::from(low), rest))
+}
+
+/// A byte of two digits.
+pub(crate) fn read_byte(line: &[u8]) -> Option<(u8, &[u8])>
+    ensures { Gives (λ x. (x.0, x.1.now)) result (hex_in 2 line.now) }
+{
+    let (number, rest) = read_hex(line, 2)?;
+    Some((number as u8, rest))
+}
+
+/// The line feed, and what follows it.
+pub(crate) fn read_end(line: &[u8]) -> Option<&[u8]>
+    ensures { Gives (λ rest. rest.now) result (text_in (10 ∷ []) line.now) }
+{
+    read_part(line, b"\n")
+}
+
+/// A number of this many digits behind a text.
+#[tactic(auto, unfolding(crate::specs::Reading::field_in))]
+pub(crate) fn read_field<'a>(line: &'a [u8], text: &[u8], digits: u32) -> Option<(u64, &'a [u8])>
+    requires { digits ≤ 16 }
+    ensures value { Gives (λ x. (x.0, x.1.now)) result (field_in text.now digits line.now) }
+    ensures bound { IfSome result (λ x. x.0 < 16 ^ digits) }
+{
+    let rest = read_part(line, text)?;
+    read_hex(rest, digits)
+}
+
+/// A byte behind a text.
+pub(crate) fn read_u8_field<'a>(line: &'a [u8], text: &[u8]) -> Option<(u8, &'a [u8])>
+    ensures { Gives (λ x. (x.0, x.1.now)) result (field_in text.now 2 line.now) }
+{
+    let (number, rest) = read_field(line, text, 2)?;
+    Some((number as u8, rest))
+}
+
+/// A number of 16 bits behind a text.
+pub(crate) fn read_u16_field<'a>(line: &'a [u8], text: &[u8]) -> Option<(u16, &'a [u8])>
+    ensures { Gives (λ x. (x.0, x.1.now)) result (field_in text.now 4 line.now) }
+{
+    let (number, rest) = read_field(line, text, 4)?;
+    Some((number as u16, rest))
+}
+
+/// A number of 32 bits behind a text.
+pub(crate) fn read_u32_field<'a>(line: &'a [u8], text: &[u8]) -> Option<(u32, &'a [u8])>
+    ensures { Gives (λ x. (x.0, x.1.now)) result (field_in text.now 8 line.now) }
+{
+    let (number, rest) = read_field(line, text, 8)?;
+    Some((number as u32, rest))
+}
+
+/// A byte in quotes.
+#[tactic(auto, unfolding(crate::specs::Reading::quoted_byte_in))]
+pub(crate) fn read_quoted_byte(line: &[u8]) -> Option<(u8, &[u8])>
+    ensures { Gives (λ x. (x.0, x.1.now)) result (quoted_byte_in line.now) }
+{
+    let (first, rest) = line.split_first()?;
+    if is_plain(*first) {
+        Some((*first, rest))
+    } else {
+        read_escaped(line)
+    }
+}
+
+// A byte in quotes that isn't plain: a plain one is never escaped.
+#[tactic(auto, unfolding(crate::specs::Reading::escaped_in))]
+fn read_escaped(line: &[u8]) -> Option<(u8, &[u8])>
+    ensures { Gives (λ x. (x.0, x.1.now)) result (escaped_in line.now) }
+{
+    let rest = read_part(line, b"\\x")?;
+    let (byte, rest) = read_byte(rest)?;
+    if is_plain(byte) {
+        None
+    } else {
+        Some((byte, rest))
+    }
+}
+
+// Whether a byte stands for itself in quotes.
+fn is_plain(byte: u8) -> bool
+    ensures { result ≡ is_plain_byte byte }
+{
+    matches!(byte, 0x20..=0x7E) && byte != b'"' && byte != b'\\'
+}

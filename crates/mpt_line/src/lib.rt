@@ -1,0 +1,16 @@
+//! The lines of a listing read from the left: each reader gives the value whose line begins a text, and
+//! what follows that line. The format is this project's own.
+#![tactic(auto)]
+
+mod base_lines;
+mod byte_fields;
+mod ext_lines;
+mod fields;
+mod heads;
+mod table_lines;
+
+pub use base_lines::read_base_line;
+pub use ext_lines::read_ext_line;
+pub use fields::read_text;
+pub use heads::{HeaderLine, PointerLine};
+pub use table_lines::{read_header_line, read_pointer_line};

@@ -1,0 +1,94 @@
+//! The lines of the floating pointer and of the table's header, each read from the left.
+
+ghost use Rattle.std.specs.Prelude.{◌≡◌, IfSome, IfNone};
+ghost use Rattle.mpt_line.specs.Reading.{Gives};
+ghost use Rattle.mpt_line.specs.Forms.{pointer_in, header_in, is_right_pointer};
+ghost use Rattle.mpt_line.specs.Lines.{IsRightPointer, pointer_text, IsRightHeader, header_text, BeginsWith, BeginsWithNone};
+
+use crate::byte_fields::{read_bytes_field, read_quoted_field};
+use crate::fields::{read_end, read_field, read_u8_field, read_u16_field, read_u32_field};
+use crate::heads::{HeaderLine, PointerLine};
+use mpt_spec::Pointer;
+
+/// The floating pointer and its place whose line begins the text, and what follows that line; `None`
+/// exactly where the text begins with no such line.
+pub fn read_pointer_line(text: &[u8]) -> Option<(PointerLine, &[u8])>
+    ensures some { IfSome result (λ x.
+        BeginsWith pointer_text IsRightPointer text.now x.0 x.1.now) }
+    ensures none { IfNone result (BeginsWithNone pointer_text IsRightPointer text.now) }
+{
+    read_pointer(text)
+}
+
+/// The header whose line begins the text, and what follows that line; `None` exactly where the text
+/// begins with no such line.
+pub fn read_header_line(text: &[u8]) -> Option<(HeaderLine, &[u8])>
+    ensures some { IfSome result (λ x.
+        BeginsWith header_text IsRightHeader text.now x.0 x.1.now) }
+    ensures none { IfNone result (BeginsWithNone header_text IsRightHeader text.now) }
+{
+    read_header(text)
+}
+
+#[tactic(auto, unfolding(crate::specs::Forms::pointer_in))]
+fn read_pointer(line: &[u8]) -> Option<(PointerLine, &[u8])>
+    ensures { Gives (λ x. (x.0, x.1.now)) result (pointer_in line.now) }
+{
+    let (at, rest) = read_field(line, b"pointer at ", 8)?;
+    let (address, rest) = read_u32_field(rest, b" table ")?;
+    let (revision, rest) = read_u8_field(rest, b" revision ")?;
+    let mut features = [0; 5];
+    let rest = read_bytes_field(&mut features, rest, b" features ")?;
+    let rest = read_end(rest)?;
+    let pointer = Pointer {
+        address,
+        revision,
+        features,
+    };
+    let found = PointerLine { at, pointer };
+    if is_right(&found) {
+        Some((found, rest))
+    } else {
+        None
+    }
+}
+
+// Whether the values of the line are right.
+fn is_right(line: &PointerLine) -> bool
+    ensures { result ≡ is_right_pointer line.now }
+{
+    let pointer = &line.pointer;
+    let number = pointer.features[0];
+    pointer.revision == 4 && number <= 7 && !(number == 0 && pointer.address == 0)
+}
+
+#[tactic(auto, unfolding(crate::specs::Forms::header_in))]
+fn read_header(line: &[u8]) -> Option<(HeaderLine, &[u8])>
+    ensures { Gives (λ x. (x.0, x.1.now)) result (header_in line.now) }
+{
+    let (revision, rest) = read_u8_field(line, b"header revision ")?;
+    let mut oem = [0; 8];
+    let rest = read_quoted_field(&mut oem, rest, b" oem ")?;
+    let mut product = [0; 12];
+    let rest = read_quoted_field(&mut product, rest, b" product ")?;
+    let (oem_table, rest) = read_u32_field(rest, b" oemtable ")?;
+    let (oem_size, rest) = read_u16_field(rest, b" oemsize ")?;
+    let (local_address, rest) = read_u32_field(rest, b" local ")?;
+    let (reserved, rest) = read_u8_field(rest, b" reserved ")?;
+    let rest = read_end(rest)?;
+    if revision != 4 {
+        return None;
+    }
+    Some((
+        HeaderLine {
+            revision,
+            oem,
+            product,
+            oem_table,
+            oem_size,
+            local_address,
+            reserved,
+        },
+        rest,
+    ))
+}

@@ -1,0 +1,15 @@
+//! Listings read back: rows whose answers were worked out by hand from the format. It holds tests alone.
+#![tactic(auto)]
+
+#[cfg(test)]
+mod cuts;
+#[cfg(test)]
+mod harness;
+#[cfg(test)]
+mod lines;
+#[cfg(test)]
+mod places;
+#[cfg(test)]
+mod texts;
+#[cfg(test)]
+mod values;

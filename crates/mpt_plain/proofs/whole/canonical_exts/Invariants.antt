@@ -1,6 +1,0 @@
-use Rattle.std.proofs.Common.{◌≡◌, map}
-use Rattle.mpt_spec.specs.Canonical.{canonical_ext}
-use Rattle.mpt_plain.proofs.whole.canonical_exts.Given as goal
-
-abbrev pub invariant-loop-entry : goal.invariant-loop-entry
-invariant-loop-entry l = l.out.items ≡ map canonical_ext l.yielded

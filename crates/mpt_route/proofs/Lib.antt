@@ -1,0 +1,7 @@
+pub mod ListLemmas
+pub mod PlatformLemmas
+pub mod RouteLemmas
+pub mod StepLemmas
+pub mod PinLemmas
+pub mod ReasonLemmas
+pub mod SizeLemmas

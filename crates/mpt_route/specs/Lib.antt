@@ -1,0 +1,7 @@
+pub mod Defaults
+pub mod Platform
+pub mod Sense
+pub mod Routes
+pub mod Index
+pub mod Pins
+pub mod Reasons

@@ -1,0 +1,192 @@
+//! Listings whose text was written by hand from the format.
+
+use mpt_listing::{Part, print, push_line};
+use mpt_spec::{
+    Base, Body, Bus, Ext, Hierarchy, IntEntry, IoApic, Modifier, Opaque, Pointer, Processor,
+    Sequence, Space, Table, Tables,
+};
+use std::alloc::Global;
+use std::test::Fail;
+
+fn printed(alloc: Global, at: u64, pointer: Pointer, body: Body) -> Result<Vec<u8>, Fail> {
+    Ok(print(alloc, &Tables { at, pointer, body })?)
+}
+
+#[test]
+fn one_processor(rt: HostRuntime) -> Result<(), Fail> {
+    let pointer = Pointer {
+        address: 0xF0010,
+        revision: 4,
+        features: [0; 5],
+    };
+    let boot = Processor {
+        apic: 0,
+        version: 0x10,
+        flags: 3,
+        signature: 0x520,
+        features: 0x1BF,
+        reserved: [0; 8],
+    };
+    let table = Table {
+        revision: 4,
+        oem: *b"MPTAB   ",
+        product: *b"BOARD       ",
+        oem_table: 0,
+        oem_size: 0,
+        local_address: 0xFEE00000,
+        reserved: 0,
+        base: Sequence::new(vec![in rt.alloc(); Base::Processor(boot)]?),
+        ext: Sequence::new(Vec::new(rt.alloc())),
+    };
+    let want = b"mptable 1
+pointer at 000F0000 table 000F0010 revision 04 features 0000000000
+header revision 04 oem \"MPTAB   \" product \"BOARD       \" oemtable 00000000 oemsize 0000 local FEE00000 reserved 00
+processor id 00 version 10 flags 03 signature 00000520 features 000001BF reserved 0000000000000000
+end
+";
+    let text = printed(rt.alloc(), 0xF0000, pointer, Body::Listed(table))?;
+    assert_eq!(rt; text.as_slice(), want.as_slice());
+    Ok(())
+}
+
+#[test]
+fn default_configuration(rt: HostRuntime) -> Result<(), Fail> {
+    let pointer = Pointer {
+        address: 0,
+        revision: 4,
+        features: [5, 0, 0, 0, 0],
+    };
+    let want = b"mptable 1
+pointer at 0009FC00 table 00000000 revision 04 features 0500000000
+end
+";
+    let text = printed(rt.alloc(), 0x9FC00, pointer, Body::Default(5))?;
+    assert_eq!(rt; text.as_slice(), want.as_slice());
+    Ok(())
+}
+
+fn base_entries(alloc: Global) -> Result<Vec<Base>, Fail> {
+    let interrupt = IntEntry {
+        kind: 3,
+        flags: 0x1F0D,
+        bus: 2,
+        irq: 0x4C,
+        dest: 0xFF,
+        pin: 0x17,
+    };
+    Ok(vec![in alloc;
+        Base::LocalInt(interrupt),
+        Base::Bus(Bus {
+            id: 0,
+            name: *b"PCI   "
+        }),
+        Base::Bus(Bus {
+            id: 0xAB,
+            name: *b"\"\\\x7F\x00 ~"
+        }),
+        Base::IoApic(IoApic {
+            id: 8,
+            version: 0x11,
+            flags: 1,
+            address: 0xFEC01000
+        }),
+        Base::IoInt(interrupt),
+        Base::Processor(Processor {
+            apic: 0x1E,
+            version: 0x14,
+            flags: 0x82,
+            signature: 0xDEADBEEF,
+            features: 0x12345678,
+            reserved: [1, 2, 3, 4, 0xA5, 6, 7, 0xF8],
+        }),
+    ]?)
+}
+
+fn ext_entries(alloc: Global) -> Result<Vec<Ext>, Fail> {
+    let rest = vec![in alloc; 0x0F, 0xA0, 0x22]?;
+    Ok(vec![in alloc;
+        Ext::Opaque(Opaque {
+            kind: 0x83,
+            rest: Sequence::new(Vec::new(alloc))
+        }),
+        Ext::Space(Space {
+            bus: 1,
+            kind: 2,
+            base: 0xFEDCBA9876543210,
+            length: 0x1000
+        }),
+        Ext::Hierarchy(Hierarchy {
+            bus: 1,
+            info: 1,
+            parent: 0,
+            reserved: [0, 0xC0, 9]
+        }),
+        Ext::Modifier(Modifier {
+            bus: 0,
+            flags: 1,
+            ranges: 0x80000001
+        }),
+        Ext::Opaque(Opaque {
+            kind: 0xFF,
+            rest: Sequence::new(rest)
+        }),
+    ]?)
+}
+
+#[test]
+fn every_entry(rt: HostRuntime) -> Result<(), Fail> {
+    let pointer = Pointer {
+        address: 0x7FE0010,
+        revision: 4,
+        features: [0, 0x80, 0xFF, 0, 1],
+    };
+    let table = Table {
+        revision: 4,
+        oem: *b"OEM \x1F\x20\x7E\x80",
+        product: *b"a'b\"c\\d\nef g",
+        oem_table: 0xABCDEF,
+        oem_size: 0x3A0,
+        local_address: 0xFEE00000,
+        reserved: 0x5A,
+        base: Sequence::new(base_entries(rt.alloc())?),
+        ext: Sequence::new(ext_entries(rt.alloc())?),
+    };
+    let want = b"mptable 1
+pointer at 000F0000 table 07FE0010 revision 04 features 0080FF0001
+header revision 04 oem \"OEM \\x1F ~\\x80\" product \"a'b\\x22c\\x5Cd\\x0Aef g\" oemtable 00ABCDEF oemsize 03A0 local FEE00000 reserved 5A
+localint kind 03 flags 1F0D bus 02 irq 4C dest FF pin 17
+bus id 00 name \"PCI   \"
+bus id AB name \"\\x22\\x5C\\x7F\\x00 ~\"
+ioapic id 08 version 11 flags 01 address FEC01000
+ioint kind 03 flags 1F0D bus 02 irq 4C dest FF pin 17
+processor id 1E version 14 flags 82 signature DEADBEEF features 12345678 reserved 01020304A50607F8
+opaque kind 83 rest -
+space bus 01 kind 02 base FEDCBA9876543210 length 0000000000001000
+hierarchy bus 01 info 01 parent 00 reserved 00C009
+modifier bus 00 flags 01 ranges 80000001
+opaque kind FF rest 0FA022
+end
+";
+    let text = printed(rt.alloc(), 0xF0000, pointer, Body::Listed(table))?;
+    assert_eq!(rt; text.as_slice(), want.as_slice());
+    Ok(())
+}
+
+#[test]
+fn line_of_parts(rt: HostRuntime) -> Result<(), Fail> {
+    let mut out = Vec::new(rt.alloc());
+    let at = [
+        Part::Text(b"fault "),
+        Part::Decimal(16),
+        Part::Text(b" at "),
+        Part::Hex(8, 0xF0050),
+    ];
+    push_line(&mut out, &at)?;
+    push_line(
+        &mut out,
+        &[Part::Decimal(0), Part::Text(b" "), Part::Decimal(u64::MAX)],
+    )?;
+    let want = b"fault 16 at 000F0050\n0 18446744073709551615\n";
+    assert_eq!(rt; out.as_slice(), want.as_slice());
+    Ok(())
+}

@@ -1,0 +1,150 @@
+//! Numbers, floating pointers and entries by their bytes, spelled out by hand from MultiProcessor
+//! Specification 1.4, figures 4-2 and 4-4 to 4-11.
+
+use crate::tables::lone;
+use mpt_base::{append, checksum8, put_bytes, put_u16, put_u32, put_u64, seal8};
+use mpt_entries::{write_base, write_ext};
+use mpt_pointer::{Pointer, read_pointer, write_pointer};
+use mpt_spec::{Base, Bus, Ext, Hierarchy, IntEntry, IoApic, Modifier, Opaque, Sequence, Space};
+
+#[test]
+fn puts_numbers_low_byte_first(rt: HostRuntime) {
+    let mut bytes = [0xAA; 18];
+    put_u16(&mut bytes, 1, 0x1234);
+    put_u32(&mut bytes, 3, 0x89AB_CDEF);
+    put_u64(&mut bytes, 7, 0x0123_4567_89AB_CDEF);
+    put_bytes(&mut bytes, 16, b"!");
+    assert_eq!(rt;
+        bytes,
+        *b"\xAA\x34\x12\xEF\xCD\xAB\x89\xEF\xCD\xAB\x89\x67\x45\x23\x01\xAA!\xAA"
+    );
+}
+
+#[test]
+fn seals_a_sum(rt: HostRuntime) {
+    let mut bytes = *b"_MP_\x10\x00\x0F\x00\x01\x04\xFF\0\0\0\0\0";
+    seal8(&mut bytes, 10);
+    assert_eq!(rt; bytes, *b"_MP_\x10\x00\x0F\x00\x01\x04\x81\0\0\0\0\0");
+    assert_eq!(rt; checksum8(b"\xC8\x02"), 0x36);
+    assert_eq!(rt; checksum8(b"\x80\x80"), 0);
+}
+
+#[test]
+fn writes_floating_pointers(rt: HostRuntime) {
+    for (address, feature, bytes) in [
+        (
+            0x000F_0010,
+            0,
+            b"_MP_\x10\x00\x0F\x00\x01\x04\x81\0\0\0\0\0",
+        ),
+        (
+            0x0000_0510,
+            0,
+            b"_MP_\x10\x05\x00\x00\x01\x04\x8B\0\0\0\0\0",
+        ),
+        (
+            0x000F_0200,
+            0,
+            b"_MP_\x00\x02\x0F\x00\x01\x04\x8F\0\0\0\0\0",
+        ),
+        (
+            0x0000_0000,
+            5,
+            b"_MP_\x00\x00\x00\x00\x01\x04\x9B\x05\0\0\0\0",
+        ),
+    ] {
+        let pointer = Pointer {
+            address,
+            revision: 4,
+            features: [feature, 0, 0, 0, 0],
+        };
+        assert_eq!(rt; write_pointer(&pointer), *bytes, "the pointer to {address}");
+        assert_eq!(rt;
+            read_pointer(bytes),
+            Some(pointer),
+            "the pointer to {address}"
+        );
+    }
+}
+
+#[test]
+fn writes_base_entries_behind_one_another(rt: HostRuntime) {
+    let interrupt = IntEntry {
+        kind: 1,
+        flags: 0x0F05,
+        bus: 2,
+        irq: 0x20,
+        dest: 0xFF,
+        pin: 16,
+    };
+    let mut out = Vec::new(rt.alloc());
+    assert_eq!(rt; append(&mut out, b"?"), Ok(()));
+    for entry in [
+        Base::Processor(lone(3, 7)),
+        Base::Bus(Bus {
+            id: 7,
+            name: *b"ISA   ",
+        }),
+        Base::IoApic(IoApic {
+            id: 2,
+            version: 0x11,
+            flags: 1,
+            address: 0xFEC0_1000,
+        }),
+        Base::IoInt(interrupt),
+        Base::LocalInt(interrupt),
+    ] {
+        assert_eq!(rt; write_base(&mut out, &entry), Ok(()));
+    }
+    let mut expected = Vec::new(rt.alloc());
+    for piece in [
+        b"?\x00\x00\x10\x03\x20\x05\x00\x00\xBF\x01\x00\x00\x07\x07\x07\x07\x07\x07\x07\x07".as_slice(),
+        b"\x01\x07ISA   ".as_slice(),
+        b"\x02\x02\x11\x01\x00\x10\xC0\xFE".as_slice(),
+        b"\x03\x01\x05\x0F\x02\x20\xFF\x10".as_slice(),
+        b"\x04\x01\x05\x0F\x02\x20\xFF\x10".as_slice(),
+    ] {
+        assert_eq!(rt; append(&mut expected, piece), Ok(()));
+    }
+    assert_eq!(rt; out.as_slice(), expected.as_slice());
+}
+
+#[test]
+fn writes_extended_entries_behind_one_another(rt: HostRuntime) {
+    let space = Ext::Space(Space {
+        bus: 0,
+        kind: 1,
+        base: 0xFEC0_0000,
+        length: 0x0001_0000_1000,
+    });
+    let hierarchy = Ext::Hierarchy(Hierarchy {
+        bus: 7,
+        info: 1,
+        parent: 3,
+        reserved: [9; 3],
+    });
+    let modifier = Ext::Modifier(Modifier {
+        bus: 4,
+        flags: 1,
+        ranges: 0x0102_0304,
+    });
+    let opaque = Ext::Opaque(Opaque {
+        kind: 0xC8,
+        rest: Sequence::new(Vec::new(rt.alloc())),
+    });
+    let mut out = Vec::new(rt.alloc());
+    assert_eq!(rt; write_ext(&mut out, &space), Ok(()));
+    assert_eq!(rt; write_ext(&mut out, &hierarchy), Ok(()));
+    assert_eq!(rt; write_ext(&mut out, &modifier), Ok(()));
+    assert_eq!(rt; write_ext(&mut out, &opaque), Ok(()));
+    let mut expected = Vec::new(rt.alloc());
+    for piece in [
+        b"\x80\x14\x00\x01\x00\x00\xC0\xFE\x00\x00\x00\x00\x00\x10\x00\x00\x01\x00\x00\x00".as_slice(),
+        b"\x81\x08\x07\x01\x03\x09\x09\x09".as_slice(),
+        b"\x82\x08\x04\x01\x04\x03\x02\x01".as_slice(),
+        b"\xC8\x02".as_slice(),
+    ] {
+        assert_eq!(rt; append(&mut expected, piece), Ok(()));
+    }
+    assert_eq!(rt; out.as_slice(), expected.as_slice());
+}

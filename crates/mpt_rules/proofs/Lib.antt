@@ -1,0 +1,3 @@
+pub mod PlaceLemmas
+pub mod SenseLemmas
+pub mod MeetLemmas

@@ -1,0 +1,11 @@
+use Rattle.std.proofs.Common.{length, sym, subst, ◌∙◌}
+use Rattle.std.proofs.lemmas.Option.{slice_get_within}
+use Rattle.mpt_rules.specs.Places.{FirstIs}
+use Rattle.mpt_rules.specs.Entries.{IsHierarchyOf}
+use Rattle.mpt_rules.proofs.ext_index.parent_of.Goals as goal
+
+pub returns-in-None : goal.returns-in-None
+returns-in-None c =
+    let es = c.args.entries.now in
+    let none = subst (FirstIs (IsHierarchyOf c.args.bus) es (length es)) (sym c.first_at.ensures ∙ c.in-None.is) (c.requires c.args.bus) in
+    λ parent p. none p.0 (slice_get_within es p.0 p.1.holds.0 p.1.holds.1) p.1.holds

@@ -1,0 +1,5 @@
+pub mod OrderLemmas
+pub mod PieceLemmas
+pub mod SizeLemmas
+pub mod BlockLemmas
+pub mod OwnLemmas

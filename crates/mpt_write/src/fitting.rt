@@ -1,0 +1,104 @@
+//! Whether tables are well formed, and whether they have a place in an image of 1 MiB (MultiProcessor
+//! Specification 1.4, chapter 4; the places in the image are this project's own).
+
+ghost use Rattle.std.specs.Prelude.{◌↔◌, ◌≤◌, IsTrue};
+ghost use Rattle.std.specs.List.{AllByRecursion};
+ghost use Rattle.mpt_spec.specs.Canonical.{IsLawfulExt, IsWellFormedTable, IsWellFormedBody, IsWellFormed, HasBlockPlace, FitsInImage};
+
+use crate::sizes::{base_size, block_bytes, ext_size};
+use mpt_spec::{Body, Ext, Pointer, Table, Tables};
+
+/// The revision byte of specification 1.4.
+const REVISION: u8 = 4;
+
+/// The most bytes that a part of a table may have: its length has 16 bits.
+const PART_LIMIT: u64 = 65_535;
+
+/// The first offset of an image behind the words of the search.
+const LOW: u64 = 0x500;
+
+/// The last place of a floating pointer.
+const LAST_PLACE: u64 = 0xF_FFF0;
+
+/// The bytes of the image that is written.
+const IMAGE_SIZE: u64 = 0x10_0000;
+
+/// The bytes of a floating pointer.
+const POINTER_SIZE: u64 = 16;
+
+// whether the type and the length of an opaque entry are lawful
+fn is_lawful(entry: &Ext) -> bool
+    ensures { IsTrue result ↔ IsLawfulExt entry.now }
+{
+    match entry {
+        Ext::Opaque(opaque) => opaque.kind >= 131 && opaque.rest.as_slice().len() <= 253,
+        _ => true,
+    }
+}
+
+fn are_lawful(entries: &[Ext]) -> bool
+    ensures { IsTrue result ↔ AllByRecursion IsLawfulExt entries.now }
+{
+    entries.iter().all(|entry| is_lawful(entry))
+}
+
+fn is_well_formed_table(table: &Table) -> bool
+    ensures { IsTrue result ↔ IsWellFormedTable table.now }
+{
+    table.revision == REVISION
+        && are_lawful(table.ext.as_slice())
+        && base_size(table) <= PART_LIMIT
+        && ext_size(table) <= PART_LIMIT
+}
+
+// whether feature byte 1 and the address name the body
+fn is_well_formed_body(body: &Body, pointer: &Pointer) -> bool
+    ensures { IsTrue result ↔ IsWellFormedBody body.now pointer.now }
+{
+    let default_number = pointer.features[0];
+    match body {
+        Body::Default(number) => default_number == *number && 1 <= *number && *number <= 7,
+        Body::Listed(table) => {
+            default_number == 0 && pointer.address != 0 && is_well_formed_table(table)
+        }
+    }
+}
+
+/// Whether the tables are well formed. Both revisions are 4. Feature byte 1 is the number of the default
+/// configuration, from 1 to 7, or 0 with an address that isn't 0. Opaque extended entries have a type
+/// of at least 131 and at most 253 bytes of rest, each part of the table has at most 65,535 bytes, and
+/// the floating pointer's place is a multiple of 16.
+pub fn well_formed(tables: &Tables) -> bool
+    ensures { IsTrue result ↔ IsWellFormed tables.now }
+{
+    tables.pointer.revision == REVISION
+        && is_well_formed_body(&tables.body, &tables.pointer)
+        && tables.at % 16 == 0
+}
+
+// whether the block, where there is one, has its place beside the floating pointer
+fn has_block_place(tables: &Tables) -> bool
+    requires well_formed { IsWellFormed tables.now }
+    requires high { tables.now.at ≤ 0xFFFF0 }
+    ensures { IsTrue result ↔ HasBlockPlace tables.now.body tables.now.pointer.address tables.now.at }
+{
+    let start = u64::from(tables.pointer.address);
+    match tables.body {
+        Body::Default(_) => true,
+        Body::Listed(_) => {
+            let end = start + block_bytes(tables);
+            LOW <= start
+                && end <= IMAGE_SIZE
+                && (end <= tables.at || tables.at + POINTER_SIZE <= start)
+        }
+    }
+}
+
+/// Whether the tables have a place in an image of 1 MiB: they are well formed, the floating pointer
+/// stands from 500h to FFFF0h, and the block of a listed table begins at 500h or above, ends at 100000h
+/// or below, and doesn't meet the sixteen bytes of the floating pointer.
+pub fn fits(tables: &Tables) -> bool
+    ensures { IsTrue result ↔ FitsInImage tables.now }
+{
+    well_formed(tables) && LOW <= tables.at && tables.at <= LAST_PLACE && has_block_place(tables)
+}

@@ -1,0 +1,59 @@
+//! The bytes of a table's header (MultiProcessor Specification 1.4, section 4.2, figure 4-3), its
+//! checksum still zero.
+
+ghost use Rattle.std.specs.Prelude.{◌≡◌, ◌+◌, ◌≤◌, ◌++◌, ◌∷◌, [], length, codes, OnOk};
+ghost use Rattle.std.specs.Int.{to_le_bytes, w16, w32};
+ghost use Rattle.mpt_spec.specs.Image.{header_bytes};
+
+use mpt_base::{NoMemory, append, put_bytes, put_u16, put_u32};
+use mpt_spec::Table;
+
+/// The offset of the checksum.
+pub(crate) const CHECKSUM_AT: usize = 7;
+
+// the eight bytes before the OEM id
+fn front_of(table: &Table, base_length: u16) -> [u8; 8]
+    ensures { result ≡ codes "PCMP" ++ (to_le_bytes w16 base_length ++ table.now.revision ∷ 0 ∷ []) }
+{
+    let mut bytes = [0; 8];
+    put_bytes(&mut bytes, 0, b"PCMP");
+    put_u16(&mut bytes, 4, base_length);
+    bytes[6] = table.revision;
+    bytes
+}
+
+// the sixteen bytes behind the product id
+fn back_of(table: &Table, ext_length: u16, ext_checksum: u8) -> [u8; 16]
+    requires { length table.now.base ≤ 65535 }
+    ensures { result ≡ to_le_bytes w32 table.now.oem_table ++ (to_le_bytes w16 table.now.oem_size ++ (to_le_bytes w16 (length table.now.base) ++ (to_le_bytes w32 table.now.local_address ++ (to_le_bytes w16 ext_length ++ ext_checksum ∷ table.now.reserved ∷ [])))) }
+{
+    let count = table.base.as_slice().len() as u16;
+    let mut bytes = [0; 16];
+    put_u32(&mut bytes, 0, table.oem_table);
+    put_u16(&mut bytes, 4, table.oem_size);
+    put_u16(&mut bytes, 6, count);
+    put_u32(&mut bytes, 8, table.local_address);
+    put_u16(&mut bytes, 12, ext_length);
+    bytes[14] = ext_checksum;
+    bytes[15] = table.reserved;
+    bytes
+}
+
+/// Appends the 44 bytes of the header with these lengths and this extended checksum.
+pub(crate) fn push_header(
+    out: &mut Vec<u8>,
+    table: &Table,
+    base_length: u16,
+    ext_length: u16,
+    ext_checksum: u8,
+) -> Result<(), NoMemory>
+    requires { length table.now.base ≤ 65535 }
+    ensures bytes { OnOk result (out.new.items ≡ out.old.items ++ header_bytes table.now base_length ext_length 0 ext_checksum) }
+    ensures size { OnOk result (length out.new.items ≡ length out.old.items + 44) }
+{
+    append(out, &front_of(table, base_length))?;
+    append(out, &table.oem)?;
+    append(out, &table.product)?;
+    append(out, &back_of(table, ext_length, ext_checksum))?;
+    Ok(())
+}

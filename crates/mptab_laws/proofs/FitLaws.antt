@@ -1,0 +1,122 @@
+-- Whether tables have a place in an image of 1 MiB is decided.
+use Rattle.std.proofs.Common.{◌≡◌, ◌≢◌, ℕ, ◌+◌, ◌%◌, ◌<◌, ◌≤◌, ◌⊎◌, List, [], ◌∷◌, length, inl, inr, arith}
+use Rattle.std.specs.List.{AllByRecursion}
+use Rattle.std.proofs.lemmas.Bool.{cases_lt}
+use Rattle.mpt_spec.specs.declared.pointer.Pointer.{Pointer}
+use Rattle.mpt_spec.specs.declared.entry.Ext.{Ext}
+use Rattle.mpt_spec.specs.declared.entry.Ext.TheVariants as ext
+use Rattle.mpt_spec.specs.declared.tables.Table.{Table}
+use Rattle.mpt_spec.specs.declared.tables.Body.{Body}
+use Rattle.mpt_spec.specs.declared.tables.Body.TheVariants as body
+use Rattle.mpt_spec.specs.declared.tables.Tables.{Tables}
+use Rattle.mpt_spec.specs.Table.{default_number}
+use Rattle.mpt_spec.specs.Canonical.{base_size, ext_size, IsLawfulExt, IsWellFormedTable, IsWellFormedBody, IsWellFormed, HasPlaceFor, HasBlockPlace, FitsInImage}
+use Rattle.mpt_laws.proofs.EntryJudgment.{Decided}
+
+both : {A B : Type 0} → Decided A → Decided B → Decided (A × B)
+both (inl a) (inl b) = inl (a, b)
+both (inl a) (inr n) = inr (λ p. n p.1)
+both (inr n) d = inr (λ p. n p.0)
+
+neither : {A B : Type 0} → ¬ A → ¬ B → A ⊎ B → ⊥
+neither n m (inl a) = n a
+neither n m (inr b) = m b
+
+either : {A B : Type 0} → Decided A → Decided B → Decided (A ⊎ B)
+either (inl a) d = inl (inl a)
+either (inr n) (inl b) = inl (inr b)
+either (inr n) (inr m) = inr (neither n m)
+
+not : {A : Type 0} → Decided A → Decided (¬ A)
+not (inl a) = inr (λ n. n a)
+not (inr n) = inl n
+
+at_most : (a b : ℕ) → Decided (a ≤ b)
+at_most a b = by_order (cases_lt b a)
+  where
+    by_order : (b < a) ⊎ (a ≤ b) → Decided (a ≤ b)
+    by_order (inl past) = inr (λ le. omega (arith, le, past))
+    by_order (inr le) = inl le
+
+same : (a b : ℕ) → Decided (a ≡ b)
+same a b = by_order (at_most a b) (at_most b a)
+  where
+    by_order : Decided (a ≤ b) → Decided (b ≤ a) → Decided (a ≡ b)
+    by_order (inl le) (inl ge) = inl (omega (arith, le, ge))
+    by_order (inr n) d = inr (λ e. n (omega (arith, e)))
+    by_order (inl le) (inr n) = inr (λ e. n (omega (arith, e)))
+
+lawful : (e : Ext) → Decided (IsLawfulExt e)
+lawful (ext.Opaque e) = three (at_most 131 e.kind) (at_most e.kind 255) (at_most (length e.rest) 253)
+  where
+    three : Decided (131 ≤ e.kind) → Decided (e.kind ≤ 255) → Decided (length e.rest ≤ 253) → Decided (IsLawfulExt (ext.Opaque e))
+    three (inl a) (inl b) (inl c) = inl (a, b, c)
+    three (inr n) x y = inr (λ p. n p.0)
+    three (inl a) (inr n) y = inr (λ p. n p.1)
+    three (inl a) (inl b) (inr n) = inr (λ p. n p.2)
+lawful (ext.Space e) = inl tt
+lawful (ext.Hierarchy e) = inl tt
+lawful (ext.Modifier e) = inl tt
+
+all_lawful : (es : List Ext) → Decided (AllByRecursion IsLawfulExt es)
+all_lawful [] = inl tt
+all_lawful (e ∷ es) = both (lawful e) (all_lawful es)
+
+well_formed_table : (t : Table) → Decided (IsWellFormedTable t)
+well_formed_table t = by_parts (same t.revision 4) (all_lawful t.ext) (at_most (base_size t) 65535) (at_most (ext_size t) 65535)
+  where
+    by_parts : Decided (t.revision ≡ 4) → Decided (AllByRecursion IsLawfulExt t.ext) → Decided (base_size t ≤ 65535) → Decided (ext_size t ≤ 65535) → Decided (IsWellFormedTable t)
+    by_parts (inl a) (inl b) (inl c) (inl d) = inl (record { revision = a; lawful = b; base_fits = c; ext_fits = d })
+    by_parts (inr n) x y z = inr (λ w. n w.revision)
+    by_parts (inl a) (inr n) y z = inr (λ w. n w.lawful)
+    by_parts (inl a) (inl b) (inr n) z = inr (λ w. n w.base_fits)
+    by_parts (inl a) (inl b) (inl c) (inr n) = inr (λ w. n w.ext_fits)
+
+well_formed_body : (b : Body) (p : Pointer) → Decided (IsWellFormedBody b p)
+well_formed_body (body.Default n) p = by_parts (same (default_number p) n) (at_most 1 n) (at_most n 7)
+  where
+    by_parts : Decided (default_number p ≡ n) → Decided (1 ≤ n) → Decided (n ≤ 7) → Decided (IsWellFormedBody (body.Default n) p)
+    by_parts (inl a) (inl b) (inl c) = inl (a, b, c)
+    by_parts (inr n) x y = inr (λ w. n w.0)
+    by_parts (inl a) (inr n) y = inr (λ w. n w.1)
+    by_parts (inl a) (inl b) (inr n) = inr (λ w. n w.2)
+well_formed_body (body.Listed t) p = by_parts (same (default_number p) 0) (not (same p.address 0)) (well_formed_table t)
+  where
+    by_parts : Decided (default_number p ≡ 0) → Decided (p.address ≢ 0) → Decided (IsWellFormedTable t) → Decided (IsWellFormedBody (body.Listed t) p)
+    by_parts (inl a) (inl b) (inl c) = inl (a, b, c)
+    by_parts (inr n) x y = inr (λ w. n w.0)
+    by_parts (inl a) (inr n) y = inr (λ w. n w.1)
+    by_parts (inl a) (inl b) (inr n) = inr (λ w. n w.2)
+
+well_formed : (t : Tables) → Decided (IsWellFormed t)
+well_formed t = by_parts (same t.pointer.revision 4) (well_formed_body t.body t.pointer) (same (t.at % 16) 0)
+  where
+    by_parts : Decided (t.pointer.revision ≡ 4) → Decided (IsWellFormedBody t.body t.pointer) → Decided (t.at % 16 ≡ 0) → Decided (IsWellFormed t)
+    by_parts (inl a) (inl b) (inl c) = inl (record { revision = a; body = b; paragraph = c })
+    by_parts (inr n) x y = inr (λ w. n w.revision)
+    by_parts (inl a) (inr n) y = inr (λ w. n w.body)
+    by_parts (inl a) (inl b) (inr n) = inr (λ w. n w.paragraph)
+
+place : (size address at : ℕ) → Decided (HasPlaceFor size address at)
+place size address at = by_parts (at_most 0x500 address) (at_most (address + size) 0x100000) (either (at_most (address + size) at) (at_most (at + 16) address))
+  where
+    by_parts : Decided (0x500 ≤ address) → Decided (address + size ≤ 0x100000) → Decided ((address + size ≤ at) ⊎ (at + 16 ≤ address)) → Decided (HasPlaceFor size address at)
+    by_parts (inl a) (inl b) (inl c) = inl (record { low = a; high = b; apart = c })
+    by_parts (inr n) x y = inr (λ w. n w.low)
+    by_parts (inl a) (inr n) y = inr (λ w. n w.high)
+    by_parts (inl a) (inl b) (inr n) = inr (λ w. n w.apart)
+
+block_place : (b : Body) (address at : ℕ) → Decided (HasBlockPlace b address at)
+block_place (body.Default n) address at = inl tt
+block_place (body.Listed t) address at = place (base_size t + ext_size t) address at
+
+-- tables fit or don't
+pub fits_decided : (t : Tables) → Decided (FitsInImage t)
+fits_decided t = by_parts (well_formed t) (at_most 0x500 t.at) (at_most t.at 0xFFFF0) (block_place t.body t.pointer.address t.at)
+  where
+    by_parts : Decided (IsWellFormed t) → Decided (0x500 ≤ t.at) → Decided (t.at ≤ 0xFFFF0) → Decided (HasBlockPlace t.body t.pointer.address t.at) → Decided (FitsInImage t)
+    by_parts (inl a) (inl b) (inl c) (inl d) = inl (record { well_formed = a; low = b; high = c; block = d })
+    by_parts (inr n) x y z = inr (λ w. n w.well_formed)
+    by_parts (inl a) (inr n) y z = inr (λ w. n w.low)
+    by_parts (inl a) (inl b) (inr n) z = inr (λ w. n w.high)
+    by_parts (inl a) (inl b) (inl c) (inr n) = inr (λ w. n w.block)
