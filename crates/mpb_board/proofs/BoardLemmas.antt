@@ -5,7 +5,8 @@ use Rattle.mpb_spec.specs.declared.agent.Offer.{Offer}
 use Rattle.mpb_spec.specs.declared.agent.Op.{Op}
 use Rattle.mpb_spec.specs.declared.entry.Entry.{Entry}
 use Rattle.mpb_spec.specs.State.{BoardState}
-use Rattle.mpb_spec.specs.Steps.{next_op}
+use Rattle.mpb_spec.specs.Steps.{next_op, after}
+use Rattle.mpb_spec.specs.Outcomes.{outcomes_of}
 use Rattle.mpb_spec.specs.May.{MayStep, MayAny, IsIdle, IsQuiescent}
 use Rattle.mpb_spec.specs.Plan.{Plan, initial_state_of, plan_size}
 use Rattle.mpb_spec.specs.Configs.{IsConfig}
@@ -18,14 +19,14 @@ use Rattle.mpb_laws.proofs.StepAccounts.{accounted}
 use Rattle.mpb_board.specs.BoardView.{IsBoard}
 
 -- a board at its start
-pub opened : (c : Plan) → IsConfig c → plan_size c < 2 ^ 32 → IsBoard c (initial_state_of c) []
-opened c is small = record { state = refl; legal = tt; within = omega arith; accounted = accounted c [] is tt; config = is; small = small }
+pub opened : (c : Plan) (s : BoardState) (journal : List Entry) → s ≡ initial_state_of c → journal ≡ [] → IsConfig c → plan_size c < 2 ^ 32 → IsBoard c s journal
+opened c s journal first none is small =
+    subst (λ (l : List Entry). IsBoard c s l) (sym none) (record { state = first; legal = tt; within = omega arith; accounted = accounted c [] is tt; config = is; small = small })
 
 -- and after one more step
-pub grown : (c : Plan) (s t : BoardState) (journal : List Entry) (x : Entry) → IsBoard c s journal → IsStep s x → t ≡ after_entry s x → IsBoard c t (journal ++ x ∷ [])
+grown : (c : Plan) (s t : BoardState) (journal : List Entry) (x : Entry) → IsBoard c s journal → IsStep (final_state_of c journal) x → t ≡ after_entry s x → IsBoard c t (journal ++ x ∷ [])
 grown c s t journal x b step next =
-    let taken : IsStep (final_state_of c journal) x = subst (λ (r : BoardState). IsStep r x) b.state step in
-    let legal : IsLegal c (journal ++ x ∷ []) = goes_on c journal x b.legal taken in
+    let legal : IsLegal c (journal ++ x ∷ []) = goes_on c journal x b.legal step in
     record {
       state = next ∙ ap (λ (r : BoardState). after_entry r x) b.state ∙ sym (state_after c journal x);
       legal = legal;
@@ -34,6 +35,13 @@ grown c s t journal x b step next =
       config = b.config;
       small = b.small;
     }
+
+pub stepped : (c : Plan) (s t : BoardState) (journal reserved pushed : List Entry) (x : Entry) (f : Offer) → IsBoard c s journal
+    → next_op (final_state_of c journal) x.agent f ≡ Some x.op → x.outcomes.items ≡ outcomes_of x.agent x.op s → t ≡ after x.agent x.op s
+    → pushed ≡ reserved ++ x ∷ [] → reserved ≡ journal → IsBoard c t pushed
+stepped c s t journal reserved pushed x f b may outcomes next push reserve =
+    let step : IsStep (final_state_of c journal) x = record { offer = f; may = may; outcomes = outcomes ∙ ap (outcomes_of x.agent x.op) b.state } in
+    subst (λ (l : List Entry). IsBoard c t l) (sym (push ∙ ap (λ (l : List Entry). l ++ x ∷ []) reserve)) (grown c s t journal x b step next)
 
 -- a journal's length fits any count
 pub short : (c : Plan) (s : BoardState) (journal : List Entry) → IsBoard c s journal → length journal < 2 ^ 62

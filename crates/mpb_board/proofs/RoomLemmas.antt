@@ -1,6 +1,8 @@
 -- The numbers of a device's words.
-use Rattle.std.proofs.Common.{◌≡◌, ℕ, ◌+◌, ◌≤◌, Bool, true, false, cond, List, [], ◌∷◌, ◌++◌, length, map, sum_by, count_by, refl, arith}
-use Rattle.std.proofs.lemmas.List.Sums.{sum_by-cons}
+use Rattle.std.proofs.Common.{◌≡◌, ℕ, ◌+◌, ◌*◌, ◌<◌, ◌≤◌, cond, List, [], ◌∷◌, ◌++◌, length, get_or, take, map, sum_by, count_by, refl, ap, ◌∙◌, arith}
+use Rattle.std.proofs.Math.Nat.{mul-le-mul_left}
+use Rattle.std.proofs.lemmas.List.{map_more}
+use Rattle.std.proofs.lemmas.List.Sums.{sum_by_push, sum_by-cons}
 use Rattle.std.specs.List.{filter_map}
 use Rattle.mpb_spec.specs.declared.agent.Op.TheVariants as op
 use Rattle.mpb_spec.specs.declared.config.DevWord.{DevWord}
@@ -22,3 +24,11 @@ device_ops ws = omega (arith, ops-and-pulses ws)
 pub sum_by-mapped : {X Y : Type 0} (f : Y → ℕ) (g : X → Y) (xs : List X) → sum_by f (map g xs) ≡ sum_by (λ x. f (g x)) xs
 sum_by-mapped f g [] = refl
 sum_by-mapped {X = X} f g (x ∷ xs) = rw (sum_by-cons f (g x) (map g xs), sum_by-cons (λ (y : X). f (g y)) x xs) (omega (arith, sum_by-mapped f g xs))
+
+-- one more device
+pub mapped_sum_more : {X Y : Type 0} (f : Y → ℕ) (g : X → Y) (xs : List X) (i : ℕ) (d : X) → i < length xs → sum_by f (map g (take (i + 1) xs)) ≡ sum_by f (map g (take i xs)) + f (g (get_or xs i d))
+mapped_sum_more f g xs i d lt = ap (sum_by f) (map_more g xs i d lt) ∙ sum_by_push f (map g (take i xs)) (g (get_or xs i d))
+
+-- four I/O APICs at most
+pub ends_le : (i k : ℕ) → i ≤ 4 → 24 * i * k ≤ 96 * k
+ends_le i k le = omega (arith, mul-le-mul_left k le)

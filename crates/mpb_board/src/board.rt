@@ -85,7 +85,6 @@ impl Board {
     }
 
     /// Whether no agent may step with any offer. Where it isn't so, some agent may step with some offer.
-    #[tactic(auto, using(crate::proofs::BoardLemmas::quiet_law))]
     pub fn quiet(&self) -> bool
         ensures quiet { IsTrue result ↔ IsQuiescent (state_of self.now) }
         ensures some { MatchBool result (IsQuiescent (state_of self.now)) ((g : AnAgent) × MayAny (state_of self.now) g) }

@@ -1,6 +1,6 @@
 //! The room of a config: how long a journal of it can get (this project's own).
 
-ghost use Rattle.std.specs.Prelude.{◌≡◌, ◌≤◌, ◌<◌, ◌^◌, map, length, sum_by, count_by};
+ghost use Rattle.std.specs.Prelude.{◌≡◌, ◌+◌, ◌*◌, ◌≤◌, ◌<◌, ◌^◌, false, map, length, sum_by, count_by};
 ghost use Rattle.mpb_spec.specs.Plan.{plan_size, device_program};
 ghost use Rattle.mpb_spec.specs.Room.{room, is_pulse, is_high, is_write, is_eoi};
 
@@ -101,6 +101,32 @@ fn of_cpus(cpus: &[CpuConfig]) -> OpCounts
     OpCounts { ops, writes, ends }
 }
 
+// how many of the words are pulses
+fn pulses_in(words: &[DevWord]) -> u64
+    requires { length words.now < 2 ^ 32 }
+    ensures count { result ≡ count_by is_pulse words.now }
+    ensures most { result ≤ length words.now }
+{
+    let mut pulses = 0;
+    for word in words {
+        pulses += u64::from(is_pulse(*word));
+    }
+    pulses
+}
+
+// how many of the words are highs
+fn highs_in(words: &[DevWord]) -> u64
+    requires { length words.now < 2 ^ 32 }
+    ensures count { result ≡ count_by is_high words.now }
+    ensures most { result ≤ length words.now }
+{
+    let mut highs = 0;
+    for word in words {
+        highs += u64::from(is_high(*word));
+    }
+    highs
+}
+
 // the counts of a device: its program has Begin, End, and its words but the pulses
 fn of_words(words: &[DevWord]) -> WordCounts
     requires { length words.now < 2 ^ 32 }
@@ -111,12 +137,8 @@ fn of_words(words: &[DevWord]) -> WordCounts
     ensures few_pulses { result.pulses ≤ length words.now }
     ensures few_highs { result.highs ≤ length words.now }
 {
-    let mut pulses = 0;
-    let mut highs = 0;
-    for word in words {
-        pulses += u64::from(is_pulse(*word));
-        highs += u64::from(is_high(*word));
-    }
+    let pulses = pulses_in(words);
+    let highs = highs_in(words);
     WordCounts {
         ops: words.len() as u64 + 2 - pulses,
         pulses,
@@ -125,7 +147,7 @@ fn of_words(words: &[DevWord]) -> WordCounts
 }
 
 // those of all devices
-#[tactic(auto, using(mpb_machine::proofs::Made::mapped_sum_more))]
+#[tactic(auto, using(crate::proofs::RoomLemmas::mapped_sum_more))]
 fn of_devices(devices: &[Vec<DevWord>]) -> WordCounts
     requires { sum_by (λ words. length words.items + 2) devices.now < 2 ^ 32 }
     ensures ops { result.ops ≡ sum_by (λ words. length (device_program words)) (map (λ words. words.items) devices.now) }
@@ -147,17 +169,42 @@ fn of_devices(devices: &[Vec<DevWord>]) -> WordCounts
     WordCounts { ops, pulses, highs }
 }
 
+// the sends that ends of interrupt can make due: one for each pin of every I/O APIC
+fn sends_by_ends(ios: u64, ends: u64) -> u64
+    requires few { ios ≤ 4 }
+    requires small { ends < 2 ^ 32 }
+    ensures sends { result ≡ 24 * ios * ends }
+    ensures most { result ≤ 96 * ends }
+{
+    let pins = 24 * ios;
+    pins * ends
+}
+
+// the room of these parts of a config
+fn room_of(cpus: &[CpuConfig], ios: &[u8], devices: &[Vec<DevWord>]) -> u64
+    requires few { length ios.now ≤ 4 }
+    requires ops { sum_by (λ p. length p.program) cpus.now < 2 ^ 32 }
+    requires words { sum_by (λ words. length words.items + 2) devices.now < 2 ^ 32 }
+    ensures { result ≡ room (record { boot = 0; boot_len = 0; cpus = cpus.now; ios = ios.now; imcr = false; devices = map (λ words. words.items) devices.now }) }
+{
+    let ops = of_cpus(cpus);
+    let words = of_devices(devices);
+    let places = ios.len() as u64;
+    let sends = sends_by_ends(places, ops.ends);
+    ops.ops + words.ops + 2 * words.pulses + words.highs + ops.writes + sends + places
+}
+
 /// The bound on every journal of the config: an entry for each op of all programs, of devices their
 /// Begin and End too; a collection and a send for each pulse; a send for each high word and each
 /// write of a register; for each end of interrupt one for each pin of every I/O APIC; and a sweep
 /// for each I/O APIC.
-pub fn room(c: &Config) -> u64
-    requires small { plan_size c.now < 2 ^ 32 }
-    ensures bound { result ≡ room c.now }
+pub fn room(config: &Config) -> u64
+    requires small { plan_size config.now < 2 ^ 32 }
+    ensures bound { result ≡ room config.now }
 {
-    let cpus = of_cpus(c.cpus.as_slice());
-    let devices = of_devices(c.devices.as_slice());
-    let ios = c.ios.len() as u64;
-    let ops = cpus.ops + devices.ops;
-    ops + 2 * devices.pulses + devices.highs + cpus.writes + 24 * ios * cpus.ends + ios
+    room_of(
+        config.cpus.as_slice(),
+        config.ios.as_slice(),
+        config.devices.as_slice(),
+    )
 }

@@ -1,20 +1,17 @@
-use Rattle.std.proofs.Common.{◌≡◌, ◌∙◌, ◌++◌, ◌∷◌, [], List, ap}
-use Rattle.mpb_spec.specs.declared.entry.Entry.{Entry}
-use Rattle.mpb_spec.specs.State.{BoardState}
-use Rattle.mpb_spec.specs.Steps.{after}
-use Rattle.mpb_spec.specs.Outcomes.{outcomes_of}
-use Rattle.mpb_spec.specs.Journal.{IsStep}
-use Rattle.mpb_board.proofs.BoardLemmas.{grown}
+use Rattle.mpb_board.proofs.BoardLemmas.{stepped}
 use Rattle.mpb_board.proofs.board.Board.make_step.Goals as goal
 
 pub make-outcomes-requires : goal.make-outcomes-requires
 make-outcomes-requires c = (c.args.offer, rw c.self.invariant.state (rw (← c.self.view_is) at c.requires))
 
 pub invariant_of-self-2 : goal.invariant_of-self-2
-invariant_of-self-2 c =
-    let x : Entry = record { agent = c.args.agent; op = c.args.op; outcomes = c.make-outcomes.result } in
-    let s : BoardState = c.self.inside.machine in
-    let pushed : c.push.new.self.items ≡ c.self.inside.journal.items ++ x ∷ [] = c.in_ok-push.ensures.items ∙ ap (λ (l : List Entry). l ++ x ∷ []) c.reserve.ensures.items in
-    let may = rw (← c.self.view_is) at c.requires in
-    let step : IsStep s x = record { offer = c.args.offer; may = rw c.self.invariant.state may; outcomes = c.make-outcomes.ensures.outcomes } in
-    rw pushed (grown c.self.inside.config s _ c.self.inside.journal.items x c.self.invariant step c.make-outcomes.ensures.state)
+invariant_of-self-2 c = stepped c.self.inside.config c.self.inside.machine c.make-outcomes.new.m c.self.inside.journal.items c.reserve.new.self.items c.push.new.self.items (record { agent = c.args.agent; op = c.args.op; outcomes = c.make-outcomes.result }) c.args.offer c.self.invariant (rw (← c.self.view_is) at c.requires) c.make-outcomes.ensures.outcomes c.make-outcomes.ensures.state c.in_ok-push.ensures.items c.reserve.ensures.items
+
+pub returns-clause-legal : goal.returns-clause-legal
+returns-clause-legal c = (stepped c.self.inside.config c.self.inside.machine c.make-outcomes.new.m c.self.inside.journal.items c.reserve.new.self.items c.push.new.self.items (record { agent = c.args.agent; op = c.args.op; outcomes = c.make-outcomes.result }) c.args.offer c.self.invariant (rw (← c.self.view_is) at c.requires) c.make-outcomes.ensures.outcomes c.make-outcomes.ensures.state c.in_ok-push.ensures.items c.reserve.ensures.items).legal
+
+pub returns-clause-within : goal.returns-clause-within
+returns-clause-within c = (stepped c.self.inside.config c.self.inside.machine c.make-outcomes.new.m c.self.inside.journal.items c.reserve.new.self.items c.push.new.self.items (record { agent = c.args.agent; op = c.args.op; outcomes = c.make-outcomes.result }) c.args.offer c.self.invariant (rw (← c.self.view_is) at c.requires) c.make-outcomes.ensures.outcomes c.make-outcomes.ensures.state c.in_ok-push.ensures.items c.reserve.ensures.items).within
+
+pub returns-clause-accounted : goal.returns-clause-accounted
+returns-clause-accounted c = (stepped c.self.inside.config c.self.inside.machine c.make-outcomes.new.m c.self.inside.journal.items c.reserve.new.self.items c.push.new.self.items (record { agent = c.args.agent; op = c.args.op; outcomes = c.make-outcomes.result }) c.args.offer c.self.invariant (rw (← c.self.view_is) at c.requires) c.make-outcomes.ensures.outcomes c.make-outcomes.ensures.state c.in_ok-push.ensures.items c.reserve.ensures.items).accounted
