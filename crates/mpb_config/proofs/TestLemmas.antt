@@ -1,12 +1,12 @@
 -- The test of a plan says whether it is one of a board.
-use Rattle.std.proofs.Common.{◌≡◌, ◌≢◌, ◌==◌, ◌<◌, ◌≤◌, ℕ, Bool, true, false, not, ◌&&◌, List, [], ◌∷◌, length, take, drop, map, nat_le, nat_lt, refl, sym, ap, ◌∙◌, subst, arith}
+use Rattle.std.proofs.Common.{◌≡◌, ◌==◌, ◌<◌, ◌≤◌, ℕ, Bool, true, false, not, ◌&&◌, List, [], ◌∷◌, length, take, drop, map, nat_lt, refl, subst, arith}
 use Rattle.std.specs.List.{list_all, AllByRecursion}
 use Rattle.std.proofs.lemmas.Bool.{and_parts, ltb-true, lt-ltb, leb-true, le-leb, eqb-true, eqb-false, eq-eqb, ne_eqb}
 use Rattle.mpb_spec.specs.declared.agent.Op.{Op}
 use Rattle.mpb_spec.specs.declared.agent.Op.TheVariants as op
 use Rattle.mpb_spec.specs.declared.config.DevWord.{DevWord}
 use Rattle.mpb_spec.specs.declared.config.DevWord.TheVariants.{Pulse, High, Low}
-use Rattle.mpb_spec.specs.Numbers.{has, IsAscending}
+use Rattle.mpb_spec.specs.Numbers.{IsAscending}
 use Rattle.mpb_spec.specs.Plan.{Plan, CpuPlan}
 use Rattle.mpb_spec.specs.Configs.{IsConfig, IsCpuPlan, IsWordOn, IsOpOn, IsAimed, IsAtPage, IsOther, is_boot_op, is_script_op, boot_ops}
 use Rattle.mpb_config.specs.ConfigTests.{IsConfigAt, is_word_on, is_op_on, is_other, is_aimed, is_at_page, is_cpu_plan, is_ascending, is_config}

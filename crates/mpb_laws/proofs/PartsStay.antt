@@ -1,5 +1,5 @@
 -- No step changes which processors, I/O APICs and devices there are.
-use Rattle.std.proofs.Common.{◌≡◌, ℕ, zero, suc, ◌+◌, true, false, List, [], ◌∷◌, length, map, refl, ap, ◌∙◌, Option, None, Some, fold, arith}
+use Rattle.std.proofs.Common.{◌≡◌, ℕ, zero, suc, ◌+◌, true, false, List, [], ◌∷◌, length, map, refl, ap, ◌∙◌, Option, None, Some, fold}
 use Rattle.mpb_spec.specs.declared.agent.Agent.{Agent}
 use Rattle.mpb_spec.specs.declared.agent.Agent.TheVariants.{Cpu, Io, Dev}
 use Rattle.mpb_spec.specs.declared.agent.Op.{Op}

@@ -2,7 +2,7 @@
 use Rattle.std.proofs.Common.{◌≡◌, ◌==◌, ◌≢◌, ℕ, ◌+◌, ◌-◌, ◌/◌, ◌<◌, Bool, true, false, cond, not, ◌&&◌, ◌||◌, List, [], ◌∷◌, ◌++◌, map, filter, refl, sym, ap, ap₂, ◌∙◌, arith, Option, Some, None, slice_get, length, count_by, sum, nat_lt, nat_le, zero, suc, inl, inr, subst}
 use Rattle.std.specs.List.{AllByRecursion}
 use Rattle.std.proofs.lemmas.List.Sums.{sum_by-cons}
-use Rattle.std.proofs.lemmas.Bool.{lt-ltb, le-ltb, ne_eqb, eq-eqb, eqb-true, eqb-false, cases_lt, cases_eq}
+use Rattle.std.proofs.lemmas.Bool.{lt-ltb, le-ltb, ne_eqb, eq-eqb, eqb-true, cases_lt, cases_eq}
 use Rattle.mpb_spec.specs.declared.entry.Outcome.{Outcome}
 use Rattle.mpb_spec.specs.declared.entry.What.{What}
 use Rattle.mpb_spec.specs.declared.entry.What.TheVariants as what
@@ -16,7 +16,7 @@ use Rattle.mpb_spec.specs.Numbers.{has, with_number, without, greatest, IsAscend
 use Rattle.mpb_spec.specs.LocalApic.{LocalApic, acceptance, accepted, taken, taken_from, next_vector, above, ppr}
 use Rattle.mpb_spec.specs.State.{Processor, runs, processor_of, change_processor}
 use Rattle.mpb_spec.specs.Delivery.{is_target, delivered_to, received, answer, outcome_at, outcomes_at, unless_absent, outcome_of_accept, init_outcome, start_outcome, startup_outcome}
-use Rattle.mpb_spec.specs.Steps.{with_apic, vector_at}
+use Rattle.mpb_spec.specs.Steps.{with_apic}
 use Rattle.mpb_spec.specs.Outcomes.{what_taken, taken_by}
 use Rattle.mpb_spec.specs.Requests.{is_set, is_taken, sets_at}
 use Rattle.mpb_laws.specs.Accounts.{is_requested_by}

@@ -1,5 +1,5 @@
 -- What the initial_state_of state has to spend is the sum that the config says.
-use Rattle.std.proofs.Common.{◌≡◌, ◌≢◌, ◌==◌, ℕ, zero, suc, ◌+◌, ◌-◌, ◌*◌, ◌<◌, ◌≤◌, Bool, true, false, cond, ◌&&◌, List, [], ◌∷◌, ◌++◌, length, take, drop, map, sum, sum_by, count_by, refl, sym, ap, ap₂, ◌∙◌, arith, inl, inr, ◌⊎◌, fold}
+use Rattle.std.proofs.Common.{◌≡◌, ◌≢◌, ◌==◌, ℕ, zero, suc, ◌+◌, ◌*◌, ◌<◌, ◌≤◌, true, false, cond, ◌&&◌, List, [], ◌∷◌, ◌++◌, length, take, drop, map, sum, sum_by, count_by, refl, ap, arith, inl, inr, ◌⊎◌}
 use Rattle.std.proofs.lemmas.List.Sums.{sum_by-cons}
 use Rattle.std.proofs.lemmas.Bool.{cases_eq, eq-eqb, ne_eqb}
 use Rattle.std.specs.List.{range_with_len, filter_map, AllByRecursion}
@@ -8,11 +8,11 @@ use Rattle.mpb_spec.specs.declared.agent.Op.{Op}
 use Rattle.mpb_spec.specs.declared.agent.Op.TheVariants as op
 use Rattle.mpb_spec.specs.declared.config.DevWord.{DevWord}
 use Rattle.mpb_spec.specs.declared.config.DevWord.TheVariants as word
-use Rattle.mpb_spec.specs.State.{Processor, Place, Device, BoardState}
+use Rattle.mpb_spec.specs.State.{Place}
 use Rattle.mpb_spec.specs.Plan.{Plan, CpuPlan, initial_state_of, pulses_on, planned, op_of_word, device_program, first_place, first_places, first_processor, first_device}
 use Rattle.mpb_spec.specs.Configs.{IsConfig, IsCpuPlan, IsWordOn, is_boot_op, is_script_op, boot_ops}
 use Rattle.mpb_spec.specs.Room.{sends_by, program_cost, processor_cost, device_cost, place_cost, due_pins, pins_in, cost, room, is_pulse, is_high, is_write, is_eoi}
-use Rattle.mpb_spec.specs.Journal.{AreSteps, IsLegal, after_entry}
+use Rattle.mpb_spec.specs.Journal.{IsLegal}
 use Rattle.mpb_laws.proofs.StepSpends.{steps_within}
 
 -- sums over n pins, and over the pins of all I/O APICs

@@ -1,5 +1,5 @@
 -- One step: the Set outcomes of a vector at a processor are its requests that are new, and each take is one request less.
-use Rattle.std.proofs.Common.{◌≡◌, ◌==◌, ℕ, suc, ◌+◌, Bool, true, false, cond, ◌&&◌, List, [], ◌∷◌, ◌++◌, map, refl, sym, ap, ap₂, ◌∙◌, arith, Option, Some, None, slice_get, option_map, count_by, sum_by, fold, subst}
+use Rattle.std.proofs.Common.{◌≡◌, ◌==◌, ℕ, suc, ◌+◌, Bool, true, false, cond, ◌&&◌, List, [], ◌∷◌, map, refl, sym, ap, ap₂, ◌∙◌, arith, Option, Some, None, slice_get, option_map, count_by, sum_by, fold, subst}
 use Rattle.std.proofs.lemmas.List.Sums.{sum_by-cons}
 use Rattle.mpb_spec.specs.declared.agent.Agent.{Agent}
 use Rattle.mpb_spec.specs.declared.agent.Agent.TheVariants.{Cpu, Io, Dev}
@@ -25,10 +25,10 @@ use Rattle.mpb_spec.specs.Steps.{after, effect_of_cpu, with_apic, due_at, kind_o
 use Rattle.mpb_spec.specs.Outcomes.{outcomes_of, outcomes_of_cpu, found, found_alive, what_ended, what_effect, of_write, of_read}
 use Rattle.mpb_spec.specs.Plan.{Plan, CpuPlan, initial_state_of, first_processor}
 use Rattle.mpb_spec.specs.Configs.{IsConfig}
-use Rattle.mpb_spec.specs.Journal.{AreSteps, IsStep, IsLegal, after_entry, final_state_of}
+use Rattle.mpb_spec.specs.Journal.{AreSteps, IsStep, IsLegal, after_entry}
 use Rattle.mpb_spec.specs.Requests.{is_vector, is_set, is_taken, is_cpu, sets_at, vector_sent, accepted_by, accepted_from, taken_in}
-use Rattle.mpb_laws.specs.Accounts.{IsAccounted, is_requested_by}
-use Rattle.mpb_laws.proofs.RequestLemmas.{requests, requests-cons, Keeps, map-keeps, change-keeps, take-counts, takes-at, plain-keeps, delivery-counts, IsOf, requests-of_one}
+use Rattle.mpb_laws.specs.Accounts.{IsAccounted}
+use Rattle.mpb_laws.proofs.RequestLemmas.{requests, requests-cons, Keeps, change-keeps, take-counts, takes-at, plain-keeps, delivery-counts, IsOf, requests-of_one}
 
 -- how often the outcomes take the vector
 abbrev takes : ℕ → List Outcome → ℕ

@@ -1,4 +1,4 @@
-use Rattle.std.proofs.Common.{◌≡◌, ◌∙◌, sym, true, true≢false}
+use Rattle.std.proofs.Common.{◌∙◌, sym, true≢false}
 use Rattle.mpb_config.proofs.TestLemmas.{config_true, true_config}
 use Rattle.mpb_config.proofs.making.config_of.Goals as goal
 
