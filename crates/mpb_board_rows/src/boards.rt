@@ -1,15 +1,16 @@
 //! The boards of the rows.
 
-ghost use Rattle.std.specs.Prelude.{◌<◌, ◌^◌, IfOk};
+ghost use Rattle.std.specs.Prelude.{◌<◌, ◌^◌, IfOk, IfSome};
 ghost use Rattle.mpb_spec.specs.Plan.{plan_size};
 
 use mpb_board::{Config, CpuConfig, DevWord, Op};
+use mpb_config::config_of;
 use std::alloc::{AllocError, Global};
 
 /// Two processors of version 10h, ids 0 (boot) and 1, and nothing else. The boot program starts
 /// processor 1 at page 9Fh.
-pub fn two_processors(alloc: Global) -> Result<Config, AllocError>
-    ensures { IfOk result (λ c. plan_size c < 2 ^ 32) }
+pub fn two_processors(alloc: Global) -> Result<Option<Config>, AllocError>
+    ensures { IfOk result (λ made. IfSome made (λ c. plan_size c < 2 ^ 32)) }
 {
     let program = [
         Op::Init(1),
@@ -32,14 +33,7 @@ pub fn two_processors(alloc: Global) -> Result<Config, AllocError>
         version: 0x10,
         program: Vec::new(alloc),
     })?;
-    Ok(Config {
-        boot: 0,
-        boot_len: 7,
-        cpus,
-        ios: Vec::new(alloc),
-        imcr: false,
-        devices: Vec::new(alloc),
-    })
+    Ok(config_of(0x9F, 0, 7, cpus, Vec::new(alloc), false, Vec::new(alloc)))
 }
 
 /// One processor of version 10h and one I/O APIC of id 1, whose pin 1 the boot program unmasks with
@@ -112,8 +106,8 @@ pub fn one_level(alloc: Global) -> Result<Config, AllocError>
 
 /// Processors 0 (boot, version 10h) and 1 (version 01h). The boot program starts processor 1 by the
 /// warm-reset vector and looks for processor 2, which isn't there.
-pub fn old_processor(alloc: Global) -> Result<Config, AllocError>
-    ensures { IfOk result (λ c. plan_size c < 2 ^ 32) }
+pub fn old_processor(alloc: Global) -> Result<Option<Config>, AllocError>
+    ensures { IfOk result (λ made. IfSome made (λ c. plan_size c < 2 ^ 32)) }
 {
     let program = [
         Op::Warm(0x9F),
@@ -140,12 +134,5 @@ pub fn old_processor(alloc: Global) -> Result<Config, AllocError>
         version: 1,
         program: Vec::new(alloc),
     })?;
-    Ok(Config {
-        boot: 0,
-        boot_len: 11,
-        cpus,
-        ios: Vec::new(alloc),
-        imcr: true,
-        devices: Vec::new(alloc),
-    })
+    Ok(config_of(0x9F, 0, 11, cpus, Vec::new(alloc), true, Vec::new(alloc)))
 }

@@ -7,7 +7,9 @@ use std::test::Fail;
 
 #[test]
 fn two_processors_start(rt: HostRuntime) -> Result<(), Fail> {
-    let config = two_processors(rt.alloc())?;
+    let Some(config) = two_processors(rt.alloc())? else {
+        panic!(rt; "no config");
+    };
     assert_eq!(rt; room(&config), 7);
     let Ok(mut board) = Board::new(rt.alloc(), config) else {
         panic!(rt; "out of memory");
@@ -106,7 +108,9 @@ fn level_pin_is_sent_again(rt: HostRuntime) -> Result<(), Fail> {
 
 #[test]
 fn old_processor_starts_by_warm_reset(rt: HostRuntime) -> Result<(), Fail> {
-    let config = old_processor(rt.alloc())?;
+    let Some(config) = old_processor(rt.alloc())? else {
+        panic!(rt; "no config");
+    };
     let Ok(mut board) = Board::new(rt.alloc(), config) else {
         panic!(rt; "out of memory");
     };
