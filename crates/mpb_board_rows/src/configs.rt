@@ -1,0 +1,121 @@
+//! Parts that make a config, and parts that make none.
+
+use mpb_board::{CpuConfig, DevWord, Op};
+use mpb_config::config_of;
+use std::alloc::{AllocError, Global};
+use std::test::Fail;
+
+/// What is varied: the page that is asked for, the boot processor's id, the length of the boot program,
+/// the second processor's id, the place that an op names, and the pin that a word names.
+#[derive(Clone, Copy)]
+struct Parts {
+    page: u8,
+    boot: u8,
+    boot_len: u32,
+    second: u8,
+    place: u8,
+    pin: u8,
+}
+
+// whether they are a config: processor 0 starts the second one at page 9Fh, selects a register, and takes
+fn are_a_config(alloc: Global, parts: Parts) -> Result<bool, AllocError> {
+    let program = [
+        Op::Init(parts.second),
+        Op::Startup(parts.second, 0x9F),
+        Op::IoSel(parts.place, 0x10),
+        Op::Take,
+    ]
+    .to_vec(alloc)?;
+    let mut cpus = Vec::new(alloc);
+    cpus.push(CpuConfig {
+        id: 0,
+        version: 0x10,
+        program,
+    })?;
+    cpus.push(CpuConfig {
+        id: parts.second,
+        version: 0x10,
+        program: Vec::new(alloc),
+    })?;
+    let ios = [2].to_vec(alloc)?;
+    let mut devices = Vec::new(alloc);
+    devices.push([DevWord::Pulse(0, parts.pin)].to_vec(alloc)?)?;
+    Ok(config_of(
+        parts.page,
+        parts.boot,
+        parts.boot_len,
+        cpus,
+        ios,
+        false,
+        devices,
+    )
+    .is_some())
+}
+
+#[test]
+fn parts_are_a_config_or_none(rt: HostRuntime) -> Result<(), Fail> {
+    let good = Parts {
+        page: 0x9F,
+        boot: 0,
+        boot_len: 3,
+        second: 1,
+        place: 0,
+        pin: 23,
+    };
+    let cases = [
+        (good, true, "as it should be"),
+        (
+            Parts {
+                boot_len: 2,
+                ..good
+            },
+            true,
+            "the selection is a script's",
+        ),
+        (Parts { page: 0x9E, ..good }, false, "another page"),
+        (Parts { boot: 2, ..good }, false, "no boot processor"),
+        (
+            Parts {
+                boot_len: 1,
+                ..good
+            },
+            false,
+            "a STARTUP in a script",
+        ),
+        (
+            Parts {
+                boot_len: 4,
+                ..good
+            },
+            false,
+            "a take in a boot program",
+        ),
+        (
+            Parts {
+                boot_len: 5,
+                ..good
+            },
+            false,
+            "a boot program that is too long",
+        ),
+        (
+            Parts { second: 0, ..good },
+            false,
+            "two processors of one id",
+        ),
+        (
+            Parts {
+                second: 255,
+                ..good
+            },
+            false,
+            "a wide id",
+        ),
+        (Parts { place: 1, ..good }, false, "no such I/O APIC"),
+        (Parts { pin: 24, ..good }, false, "no such pin"),
+    ];
+    for (parts, want, what) in cases {
+        assert_eq!(rt; are_a_config(rt.alloc(), parts)?, want, "{what}");
+    }
+    Ok(())
+}

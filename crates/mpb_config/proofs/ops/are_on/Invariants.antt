@@ -1,0 +1,7 @@
+use Rattle.std.proofs.Common.{◌≡◌, true, take}
+use Rattle.std.specs.List.{list_all}
+use Rattle.mpb_config.specs.ConfigTests.{is_op_on}
+use Rattle.mpb_config.proofs.ops.are_on.Given as goal
+
+abbrev pub invariant-loop-op : goal.invariant-loop-op
+invariant-loop-op l = list_all (is_op_on l.ios) (take l.op-index l.ops) ≡ true

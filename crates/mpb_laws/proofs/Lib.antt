@@ -1,0 +1,9 @@
+pub mod RoomLemmas
+pub mod PinsStay
+pub mod StepSpends
+pub mod RoomSum
+pub mod RoomBound
+pub mod RequestLemmas
+pub mod StepAccounts
+pub mod JournalLemmas
+pub mod PartsStay

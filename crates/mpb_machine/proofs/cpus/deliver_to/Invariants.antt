@@ -1,0 +1,13 @@
+use Rattle.std.proofs.Common.{◌≡◌, ◌≤◌, ◌++◌, map, take, drop, filter, cond, length}
+use Rattle.mpb_spec.specs.declared.entry.Outcome.{Outcome}
+use Rattle.mpb_spec.specs.State.{Processor}
+use Rattle.mpb_spec.specs.Delivery.{is_target, received, answer, outcome_at, delivered_to}
+use Rattle.mpb_machine.proofs.cpus.deliver_to.Given as goal
+
+-- the processors before this one have the message, and their outcomes are told
+abbrev pub invariant-loop-cpu : goal.invariant-loop-cpu
+invariant-loop-cpu l = record {
+  cpus : l.cpus ≡ map (delivered_to l.warm l.all l.dest l.delivery) (take l.cpu-index l.initial.cpus) ++ drop l.cpu-index l.initial.cpus;
+  outcomes : l.outcomes.items ≡ map (outcome_at l.warm l.delivery) (filter (is_target l.all l.dest) (take l.cpu-index l.initial.cpus));
+  count : length l.outcomes.items ≤ l.cpu-index;
+}

@@ -1,0 +1,22 @@
+use Rattle.std.proofs.Common.{◌≡◌, ◌∙◌, sym, ap, arith, map, true, false, Some, None, Option}
+use Rattle.mpb_spec.specs.declared.entry.What.{What}
+use Rattle.mpb_spec.specs.IoApic.{IoChip, with_line, change_pin, with_sent, written}
+use Rattle.mpb_spec.specs.State.{Place}
+use Rattle.mpb_spec.specs.Steps.{with_chip, with_pins_of, collected, due_of}
+use Rattle.mpb_spec.specs.Outcomes.{of_write, of_read, of_line, of_collect}
+use Rattle.mpb_spec.proofs.StateLemmas.{changed_at, changed_beyond, got_at, got_beyond}
+use Rattle.mpb_machine.proofs.places.drive.Goals as goal
+
+pub returns-then-at-places-clause-state : goal.returns-then-at-places-clause-state
+returns-then-at-places-clause-state c = changed_beyond c.args.at (with_chip (with_pins_of (change_pin c.args.pin (with_line c.args.high)))) c.args.places.now (omega arith)
+
+pub returns-clause-state : goal.returns-clause-state
+returns-clause-state c = changed_at c.args.at (with_chip (with_pins_of (change_pin c.args.pin (with_line c.args.high)))) c.args.places.now _ _ (omega arith) c.drive.ensures.state
+
+pub returns-then-at-places-clause-outcome : goal.returns-then-at-places-clause-outcome
+returns-then-at-places-clause-outcome c = sym (ap (of_line c.args.pin c.args.high) (got_beyond c.args.at c.args.places.now (omega arith)))
+
+pub returns-clause-outcome : goal.returns-clause-outcome
+returns-clause-outcome c =
+    let got = got_at c.args.at c.args.places.now c.index-places-at.result (omega arith) in
+    rw got (cc)

@@ -1,0 +1,96 @@
+//! The ops of each kind of agent, each with its effect and its outcomes.
+
+ghost use Rattle.std.specs.Prelude.{◌≡◌, Some};
+ghost use Rattle.mpb_spec.specs.declared.agent.Offer.{Offer};
+ghost use Rattle.mpb_spec.specs.Steps.{effect_of_cpu, effect_of_dev, effect_of_io, next_op, after};
+ghost use Rattle.mpb_spec.specs.Outcomes.{outcomes_of, outcomes_of_cpu, outcomes_of_dev, outcomes_of_io};
+
+use crate::machine::Machine;
+use crate::telling::tell;
+use arrayvec::ArrayVec;
+use mpb_spec::{Agent, Delivery, Op, Outcome, What};
+
+/// An op of a processor, but for its position.
+pub fn make_cpu(m: &mut Machine, id: u8, op: Op) -> ArrayVec<Outcome, 8>
+    ensures state { m.new ≡ effect_of_cpu id op m.old }
+    ensures outcomes { result.items ≡ outcomes_of_cpu id op m.old }
+{
+    match op {
+        Op::Imcr => {
+            m.set_imcr();
+            tell(0, What::Done)
+        }
+        Op::Warm(page) => {
+            m.set_warm(page);
+            tell(0, What::Done)
+        }
+        Op::Init(dest) => m.deliver(255, dest, Delivery::Init),
+        Op::Startup(dest, page) => m.deliver(255, dest, Delivery::Startup(page)),
+        Op::Check(dest) => tell(dest, m.check(dest)),
+        Op::Ipi(dest, vector) => m.deliver(255, dest, Delivery::Fixed(vector, false)),
+        Op::Nmi(dest) => m.deliver(255, dest, Delivery::Nmi),
+        Op::Take => tell(0, m.take(id)),
+        Op::Poll => tell(0, m.take(id)),
+        Op::Eoi => tell(0, m.end(id)),
+        Op::Tpr(priority) => {
+            m.set_tpr(id, priority);
+            tell(0, What::Done)
+        }
+        Op::IoSel(at, index) => {
+            m.select(at, index);
+            tell(0, What::Done)
+        }
+        Op::IoWin(at, value) => tell(0, m.write(at, value)),
+        Op::IoRead(at) => tell(0, m.read(at)),
+        _ => tell(0, What::Done),
+    }
+}
+
+/// An op of a device, but for its position.
+pub fn make_dev(m: &mut Machine, op: Op) -> ArrayVec<Outcome, 8>
+    ensures state { m.new ≡ effect_of_dev op m.old }
+    ensures outcomes { result.items ≡ outcomes_of_dev op m.old }
+{
+    match op {
+        Op::High(at, pin) => tell(0, m.drive(at, pin, true)),
+        Op::Low(at, pin) => tell(0, m.drive(at, pin, false)),
+        _ => tell(0, What::Done),
+    }
+}
+
+/// An op of an I/O APIC.
+pub fn make_io(m: &mut Machine, at: u8, op: Op) -> ArrayVec<Outcome, 8>
+    ensures state { m.new ≡ effect_of_io at op m.old }
+    ensures outcomes { result.items ≡ outcomes_of_io at op m.old }
+{
+    match op {
+        Op::Collect(pins) => tell(0, m.collect(at, pins)),
+        Op::Send(_) => m.send(at),
+        Op::Sweep => {
+            m.sweep(at);
+            tell(0, What::Done)
+        }
+        _ => tell(0, What::Done),
+    }
+}
+
+/// The op that an agent may make next is made.
+pub fn make(m: &mut Machine, agent: Agent, op: Op) -> ArrayVec<Outcome, 8>
+    requires { (f : Offer) × (next_op m.old agent f ≡ Some op) }
+    ensures state { m.new ≡ after agent op m.old }
+    ensures outcomes { result.items ≡ outcomes_of agent op m.old }
+{
+    match agent {
+        Agent::Cpu(id) => {
+            let outcomes = make_cpu(m, id, op);
+            m.advance_cpu(id);
+            outcomes
+        }
+        Agent::Dev(number) => {
+            let outcomes = make_dev(m, op);
+            m.advance_device(number);
+            outcomes
+        }
+        Agent::Io(at) => make_io(m, at, op),
+    }
+}
