@@ -1,5 +1,5 @@
 //! A call on the plain latch beside the same call on the shared one.
-ghost use Rattle.std.specs.Prelude.{◌≡◌, ◌<◌, ◌≤◌, ◌+◌, false, true, length, Some, slice_get};
+ghost use Rattle.std.specs.Prelude.{◌≡◌, ◌<◌, ◌+◌, false, length, Some, slice_get};
 
 use mpb_latch::{ColSeat, DevSeat, Hit, Latch, PlainLatch, Pulse};
 

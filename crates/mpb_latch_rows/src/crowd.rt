@@ -1,6 +1,6 @@
 //! Devices in threads of their own beside collectors in theirs: whatever the schedule, what is New
 //! was collected.
-ghost use Rattle.std.specs.Prelude.{◌≡◌, ◌<◌, ◌≤◌, ◌*◌, ◌^◌, length, All, IfOk, vec_len, sum_by};
+ghost use Rattle.std.specs.Prelude.{◌≡◌, length, All, IfOk, vec_len, sum_by};
 ghost use Rattle.mpb_latch.specs.Pulses.{IsInRange};
 
 use crate::crew::account_of;
