@@ -4,18 +4,22 @@ use Rattle.std.specs.Prelude.{bit_and, bit_or}
 use Rattle.std.specs.Int.{bit_at, bit_not, w64}
 use Rattle.std.proofs.lemmas.Bool.{ne_eqb, eq-eqb, cases_lt, cases_eq}
 use Rattle.std.proofs.lemmas.List.{get_or_past, get_or-set_same, get_or-set_other, get_or-replicate, length-replicate}
-use lib.Count.{count_leading_zeros}
 use Rattle.std.proofs.Math.Nat.{pow-suc}
-use Rattle.std.proofs.lemmas.Nat.{leading_top, pow_pos, le-div, div_below}
+use Rattle.std.proofs.lemmas.Nat.{pow_pos, le-div, div_below}
 use Rattle.std.proofs.lemmas.Nat.Bits.{shr_and_one, bit_at-zero, bit_at-lt, bit_at_or, bit_at_above, bit_at_set_same, bit_at_set_other, bit_at_clear_same, bit_at_clear_other}
 use Rattle.mpb_spec.specs.Numbers.{has, with_number, without, greatest, IsAscending}
 use Rattle.mpb_spec.proofs.NumberLemmas.{IsAscending-with, IsAscending-without, has-with_itself, has-with_other, has-without_itself, has-without_other}
-use Rattle.mpb_bits.specs.Sets.{is_set, members, united}
+use Rattle.mpb_bits.specs.Sets.{is_set, members, united, IsSetBelow}
 use Rattle.mpb_bits.proofs.SetLemmas.{same_sets, greatest_is, no_members, has-united, IsAscending-united}
 use Rattle.mpb_bits.proofs.BitLemmas.{is_set-past, has-members, IsSetBelow-members}
 
 pub IsAscending-members : (words : List ℕ) → IsAscending (members words)
 IsAscending-members words = (IsSetBelow-members words).ascending
+
+-- what a closed set tells of its members
+pub IsSetBelow-view : (words xs : List ℕ) (n : ℕ) → length words ≡ n → members words ≡ xs → IsSetBelow (64 * n) xs
+IsSetBelow-view words xs n long same =
+    subst (λ (ys : List ℕ). IsSetBelow (64 * n) ys) same (subst (λ (k : ℕ). IsSetBelow (64 * k) (members words)) long (IsSetBelow-members words))
 
 is_set-bit : (words : List ℕ) (n : ℕ) → is_set words n ≡ (bit_at (get_or words (n / 64) 0) (n % 64) == 1)
 unfolding is_set
@@ -83,16 +87,16 @@ is_set-none words v e = rw (e, bit_at-zero (v % 64)) refl
 pub members-none : (words : List ℕ) → ((k : ℕ) → get_or words k 0 ≡ 0) → members words ≡ []
 members-none words zeros = no_members (members words) (λ v. has-members words v ∙ is_set-none words v (zeros (v / 64)))
 
-pub members-zeros : (n : ℕ) → members (replicate n 0) ≡ []
-members-zeros n = members-none (replicate n 0) zero_at where
-  zero_at : (k : ℕ) → get_or (replicate n 0) k 0 ≡ 0
+pub members-zeros : (n : ℕ) → members (replicate {A = ℕ} n 0) ≡ []
+members-zeros n = members-none (replicate {A = ℕ} n 0) zero_at where
+  zero_at : (k : ℕ) → ◌≡◌ {A = ℕ} (get_or {A = ℕ} (replicate {A = ℕ} n 0) k 0) 0
   zero_at k = elim (cases_lt k n) [
-    | inl lt ↦ get_or-replicate n k 0 0 lt
-    | inr ge ↦ let far : length (replicate n 0) ≤ k = omega (arith, length-replicate n 0) in get_or_past (replicate n 0) k 0 far
+    | inl lt ↦ get_or-replicate {A = ℕ} n k 0 0 lt
+    | inr ge ↦ let far : length (replicate {A = ℕ} n 0) ≤ k = omega (arith, length-replicate {A = ℕ} n 0) in get_or_past (replicate {A = ℕ} n 0) k 0 far
   ]
 
-pub greatest-none : (words : List ℕ) → ((k : ℕ) → get_or words k 0 ≡ 0) → greatest (members words) ≡ None
-greatest-none words zeros = ap greatest (members-none words zeros)
+pub greatest-none : (words : List ℕ) → ((k : ℕ) → get_or words k 0 ≡ 0) → None ≡ greatest (members words)
+greatest-none words zeros = sym (ap greatest (members-none words zeros))
 
 -- the highest bit of the highest word that is not 0 is the greatest member
 pub is_set-at : (words : List ℕ) (k j : ℕ) → j < 64 → is_set words (64 * k + j) ≡ (bit_at (get_or words k 0) j == 1)
@@ -111,11 +115,26 @@ is_set-above words k j v lt high zeros above = elim (cases_lt k (v / 64)) [
       rw (same, high (v % 64) (omega arith)) refl
 ]
 
-pub greatest-members : (words : List ℕ) (k j : ℕ) → j < 64 → bit_at (get_or words k 0) j ≡ 1 → ((i : ℕ) → j < i → bit_at (get_or words k 0) i ≡ 0) → ((m : ℕ) → k < m → get_or words m 0 ≡ 0) → greatest (members words) ≡ Some (64 * k + j)
-greatest-members words k j lt one high zeros =
+quotient_one : (w p : ℕ) → 0 < p → p ≤ w → w < 2 * p → w / p ≡ 1
+quotient_one w p pos low high =
+    let one_or_more : 1 ≤ w / p = le-div 1 w p pos (omega arith) in
+    let below_two : w / p < 2 = div_below w p 2 pos (omega arith) in
+    omega arith
+
+highest_bit : (w j : ℕ) → 2 ^ j ≤ w → w < 2 * 2 ^ j → bit_at w j ≡ 1
+highest_bit w j low high = rw (quotient_one w (2 ^ j) (pow_pos j) low high) refl
+
+no_higher_bit : (w j i : ℕ) → w < 2 * 2 ^ j → j < i → bit_at w i ≡ 0
+no_higher_bit w j i high lt = let double = pow-suc 2 j in bit_at_above w (suc j) i (omega arith) (omega arith)
+
+pub greatest-members : (words : List ℕ) (k j : ℕ) → j < 64 → 2 ^ j ≤ get_or words k 0 → get_or words k 0 < 2 * 2 ^ j → ((m : ℕ) → k < m → get_or words m 0 ≡ 0) → Some (64 * k + j) ≡ greatest (members words)
+greatest-members words k j lt low high zeros =
+    let one = highest_bit (get_or words k 0) j low high in
+    sym (
     greatest_is (members words) (64 * k + j) (IsAscending-members words)
     (has-members words (64 * k + j) ∙ is_set-at words k j lt ∙ eq-eqb (bit_at (get_or words k 0) j) 1 one)
-    (λ v above. has-members words v ∙ is_set-above words k j v lt high zeros above)
+    (λ v above. has-members words v ∙ is_set-above words k j v lt (λ i. no_higher_bit (get_or words k 0) j i high) zeros above)
+    )
 
 -- both sets' members
 bit_max : (a b : ℕ) → a < 2 → b < 2 → (max a b == 1) ≡ ((a == 1) || (b == 1))
@@ -140,21 +159,14 @@ members-united words xs ys each =
     has-members words v ∙ is_set-both words xs ys v (each (v / 64)) ∙ sym (has-united v (members xs) (members ys) ∙ ap₂ ◌||◌ (has-members xs v) (has-members ys v))
     )
 
-quotient_one : (w p : ℕ) → 0 < p → p ≤ w → w < p * 2 → w / p ≡ 1
-quotient_one w p pos low high =
-    let one_or_more : 1 ≤ w / p = le-div 1 w p pos (omega arith) in
-    let below_two : w / p < 2 = div_below w p 2 pos (omega arith) in
-    omega arith
-
--- the highest bit of a number that is not 0
-pub highest_bit : (w : ℕ) → 0 < w → w < 2 ^ 64 → (count_leading_zeros 64 w < 64) × (bit_at w (63 - count_leading_zeros 64 w) ≡ 1) × ((i : ℕ) → 63 - count_leading_zeros 64 w < i → bit_at w i ≡ 0)
-highest_bit w some fits =
-    let top = leading_top 64 w some fits in
-    let j = top.0 in
-    let at_j : 63 - count_leading_zeros 64 w ≡ j = omega (arith, top.1) in
-    (omega (arith, top.1), rw at_j (top_bit w j top.2 top.3), λ i above. bit_at_above w (suc j) i top.3 (omega (arith, at_j))) where
-      top_bit : (w j : ℕ) → 2 ^ j ≤ w → w < 2 ^ suc j → bit_at w j ≡ 1
-      top_bit w j low high =
-          let double : 2 ^ suc j ≡ 2 ^ j * 2 = pow-suc 2 j in
-          let quotient : w / 2 ^ j ≡ 1 = quotient_one w (2 ^ j) (pow_pos j) low (omega (arith, double)) in
-          rw quotient refl
+-- as far as one of the sets has words, word by word
+pub members-united_words : (words xs ys : List ℕ) (n : ℕ) → length xs ≤ n → length ys ≡ length xs → ((k : ℕ) → k < n → get_or words k 0 ≡ bit_or (get_or xs k 0) (get_or ys k 0)) → ((k : ℕ) → n ≤ k → get_or words k 0 ≡ get_or xs k 0) → members words ≡ united (members xs) (members ys)
+members-united_words words xs ys n all long done rest = members-united words xs ys (λ k. each k) where
+  each : (k : ℕ) → get_or words k 0 ≡ bit_or (get_or xs k 0) (get_or ys k 0)
+  each k = elim (cases_lt k n) [
+    | inl lt ↦ done k lt
+    | inr ge ↦
+        let far : length xs ≤ k = omega arith in
+        let far_too : length ys ≤ k = omega arith in
+        rest k ge ∙ rw (get_or_past xs k 0 far, get_or_past ys k 0 far_too) refl
+  ]

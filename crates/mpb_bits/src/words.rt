@@ -1,7 +1,6 @@
 //! Words of 64 bits as a set: number n is bit n % 64 of word n / 64.
 
-ghost use Rattle.std.specs.Prelude.{◌≡◌, ℕ, ◌*◌, ◌<◌, ◌≤◌, length, not, IfSome};
-ghost use Rattle.std.specs.Int.{bit_at};
+ghost use Rattle.std.specs.Prelude.{◌≡◌, ◌*◌, ◌<◌, ◌≤◌, length, not, IfSome};
 ghost use Rattle.mpb_spec.specs.Numbers.{has, with_number, without, greatest};
 ghost use Rattle.mpb_bits.specs.Sets.{members, united};
 
@@ -35,16 +34,6 @@ pub fn take_in(words: &mut [u64], number: u32) -> bool
     there
 }
 
-// the place of the highest bit of a word that is not 0
-fn highest(word: u64) -> u32
-    requires { 0 < word }
-    ensures bit { bit_at word result ≡ 1 }
-    ensures highest { (i : ℕ) → result < i → bit_at word i ≡ 0 }
-    ensures inside { result < 64 }
-{
-    63 - word.leading_zeros()
-}
-
 /// The greatest member, from the highest word that is not 0.
 pub fn top_in(words: &[u64]) -> Option<u32>
     requires { length words.now ≤ 65536 }
@@ -56,7 +45,7 @@ pub fn top_in(words: &[u64]) -> Option<u32>
         place -= 1;
         let word = words[place];
         if word != 0 {
-            return Some(64 * place as u32 + highest(word));
+            return Some(64 * place as u32 + word.ilog2());
         }
     }
     None

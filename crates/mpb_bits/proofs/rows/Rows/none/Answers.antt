@@ -2,4 +2,4 @@ use Rattle.mpb_bits.proofs.WordLemmas.{members-zeros}
 use Rattle.mpb_bits.proofs.rows.Rows.none.Goals as goal
 
 pub returns : goal.returns
-returns g c = members-zeros g.row.N
+returns g c = record { empty = members-zeros g.row.N }
