@@ -1,14 +1,12 @@
 -- The members of words by their bits.
-use Rattle.std.proofs.Common.{◌≡◌, ◌≢◌, ◌==◌, ℕ, zero, suc, ◌+◌, ◌-◌, ◌*◌, ◌/◌, ◌%◌, ◌<◌, ◌≤◌, max, Bool, true, false, cond, ◌&&◌, ◌||◌, List, [], ◌∷◌, length, get_or, refl, sym, ap, ◌∙◌, arith, filter, inl, inr}
-use Rattle.std.specs.Int.{bit_at}
-use Rattle.std.specs.List.{range_with_len, AllByRecursion}
+use Rattle.std.proofs.Common.{◌≡◌, ◌==◌, ℕ, zero, suc, ◌+◌, ◌*◌, ◌/◌, ◌%◌, ◌<◌, ◌≤◌, Bool, true, false, cond, ◌&&◌, ◌||◌, List, [], ◌∷◌, length, refl, sym, ap, ◌∙◌, arith, filter, inl, inr}
+use Rattle.std.specs.List.{range_with_len}
 use Rattle.std.proofs.lemmas.Bool.{ne_eqb, eq-eqb, eqb-true, cases_lt, cases_eq}
 use Rattle.std.proofs.lemmas.List.{get_or_past}
 use Rattle.std.proofs.lemmas.Nat.Bits.{bit_at-zero}
 use Rattle.mpb_spec.specs.Numbers.{has, IsAscending}
 use Rattle.mpb_spec.proofs.NumberLemmas.{AllAbove, AllBelow, IsAscending-filter}
 use Rattle.mpb_bits.specs.Sets.{is_set, members, IsSetBelow}
-use Rattle.mpb_bits.proofs.SetLemmas.{has-head}
 
 -- a row of numbers
 AllAbove-row : (v m k : ℕ) → v < m → AllAbove v (range_with_len m k)

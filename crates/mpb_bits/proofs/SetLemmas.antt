@@ -1,9 +1,8 @@
 -- Strictly ascending lists: one list for one set, its greatest member, and the members of two sets together.
-use Rattle.std.proofs.Common.{◌≡◌, ◌≢◌, ◌==◌, ℕ, zero, suc, ◌+◌, ◌-◌, ◌<◌, ◌≤◌, Bool, true, false, cond, ◌&&◌, ◌||◌, List, [], ◌∷◌, length, refl, sym, ap, ap₂, ◌∙◌, arith, filter, inl, inr, Some, subst}
-use Rattle.std.specs.List.{AllByRecursion}
-use Rattle.std.proofs.lemmas.Bool.{ne_eqb, eq-eqb, eqb-true, cases_lt, cases_eq}
-use Rattle.mpb_spec.specs.Numbers.{has, with_number, without, greatest, IsAscending}
-use Rattle.mpb_spec.proofs.NumberLemmas.{AllAbove, AllBelow, AllAbove-weaker, filter_above, IsAscending-with, has-with_itself, has-with_other}
+use Rattle.std.proofs.Common.{◌≡◌, ◌==◌, ℕ, suc, ◌-◌, ◌<◌, Bool, true, false, ◌||◌, List, [], ◌∷◌, length, refl, sym, ap, ap₂, ◌∙◌, arith, inl, inr, Some, subst}
+use Rattle.std.proofs.lemmas.Bool.{ne_eqb, eq-eqb, cases_lt, cases_eq}
+use Rattle.mpb_spec.specs.Numbers.{has, with_number, greatest, IsAscending}
+use Rattle.mpb_spec.proofs.NumberLemmas.{AllAbove, AllAbove-weaker, filter_above, IsAscending-with, has-with_itself, has-with_other}
 use Rattle.mpb_bits.specs.Sets.{united}
 
 pub has-head : (x : ℕ) (xs : List ℕ) → has x (x ∷ xs) ≡ true

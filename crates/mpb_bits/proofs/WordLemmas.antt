@@ -1,8 +1,8 @@
 -- What a call does to the members: a bit set, a bit cleared, the highest word, two sets together.
-use Rattle.std.proofs.Common.{◌≡◌, ◌≢◌, ◌==◌, ℕ, zero, suc, ◌+◌, ◌-◌, ◌*◌, ◌/◌, ◌%◌, ◌^◌, ◌<◌, ◌≤◌, min, max, Bool, true, false, cond, ◌||◌, List, [], length, get_or, set, replicate, refl, sym, ap, ap₂, ◌∙◌, arith, inl, inr, Some, None, subst}
+use Rattle.std.proofs.Common.{◌≡◌, ◌≢◌, ◌==◌, ℕ, zero, suc, ◌+◌, ◌*◌, ◌/◌, ◌%◌, ◌^◌, ◌<◌, ◌≤◌, max, false, ◌||◌, List, [], length, get_or, set, replicate, refl, sym, ap, ap₂, ◌∙◌, arith, inl, inr, Some, None, subst}
 use Rattle.std.specs.Prelude.{bit_and, bit_or}
 use Rattle.std.specs.Int.{bit_at, bit_not, w64}
-use Rattle.std.proofs.lemmas.Bool.{ne_eqb, eq-eqb, cases_lt, cases_eq}
+use Rattle.std.proofs.lemmas.Bool.{eq-eqb, cases_lt, cases_eq}
 use Rattle.std.proofs.lemmas.List.{get_or_past, get_or-set_same, get_or-set_other, get_or-replicate, length-replicate}
 use Rattle.std.proofs.Math.Nat.{pow-suc}
 use Rattle.std.proofs.lemmas.Nat.{pow_pos, le-div, div_below}
@@ -11,7 +11,7 @@ use Rattle.mpb_spec.specs.Numbers.{has, with_number, without, greatest, IsAscend
 use Rattle.mpb_spec.proofs.NumberLemmas.{IsAscending-with, IsAscending-without, has-with_itself, has-with_other, has-without_itself, has-without_other}
 use Rattle.mpb_bits.specs.Sets.{is_set, members, united, IsSetBelow}
 use Rattle.mpb_bits.proofs.SetLemmas.{same_sets, greatest_is, no_members, has-united, IsAscending-united}
-use Rattle.mpb_bits.proofs.BitLemmas.{is_set-past, has-members, IsSetBelow-members}
+use Rattle.mpb_bits.proofs.BitLemmas.{has-members, IsSetBelow-members}
 
 pub IsAscending-members : (words : List ℕ) → IsAscending (members words)
 IsAscending-members words = (IsSetBelow-members words).ascending
