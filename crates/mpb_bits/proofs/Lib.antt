@@ -1,0 +1,4 @@
+pub mod SetLemmas
+pub mod BitLemmas
+pub mod WordLemmas
+pub mod CountLemmas
