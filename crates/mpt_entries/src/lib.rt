@@ -9,8 +9,6 @@ mod extended_writing;
 mod layouts;
 mod pci;
 mod stop;
-#[cfg(test)]
-mod tests;
 
 pub use base::read_base;
 pub use base_writing::write_base;

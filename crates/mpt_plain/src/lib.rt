@@ -4,7 +4,5 @@
 #![tactic(auto)]
 
 mod places;
-#[cfg(test)]
-mod tests;
 
 pub use places::search_places;

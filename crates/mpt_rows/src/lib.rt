@@ -6,6 +6,8 @@
 #[cfg(test)]
 mod canonical;
 #[cfg(test)]
+mod entries;
+#[cfg(test)]
 mod file_shelf;
 #[cfg(test)]
 mod fitting;
@@ -14,7 +16,11 @@ mod listing;
 #[cfg(test)]
 mod outside;
 #[cfg(test)]
+mod places;
+#[cfg(test)]
 mod pointer;
+#[cfg(test)]
+mod reading;
 #[cfg(test)]
 mod spelled;
 #[cfg(test)]

@@ -12,8 +12,8 @@ const BYTES: [u8; 16] = [
     0x5F, 0x4D, 0x50, 0x5F, 0x10, 0x00, 0x0F, 0x00, 0x01, 0x04, 0x81, 0x00, 0x00, 0x00, 0x00, 0x00,
 ];
 
-// an image of zeros
-fn zeros(alloc: Global, len: usize) -> Result<Vec<u8>, AllocError>
+/// An image of zeros.
+pub(crate) fn zeros(alloc: Global, len: usize) -> Result<Vec<u8>, AllocError>
     ensures { IfOk result (λ image. length image.items ≡ len) }
 {
     vec![in alloc; 0; len]

@@ -9,8 +9,6 @@ mod reading_from;
 mod refusal;
 mod search_from;
 mod table_from;
-#[cfg(test)]
-mod tests;
 mod window;
 
 pub use mpt_spec::{Body, Pointer, Table, Tables};

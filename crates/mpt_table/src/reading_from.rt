@@ -119,8 +119,7 @@ fn answer_from<S: Shelf>(
 /// `read` answers, from windows of the file.
 ///
 /// Read are the two words of the search, its areas one after the other, the header, and the table's
-/// two parts: at most 197,694 bytes of an image of any size, and at most 131,070 of them are held at
-/// once, at most 65,536 during the search. A failed read isn't tried again.
+/// two parts: at most 197,694 bytes of an image of any size.
 pub fn read_from<S: Shelf>(
     alloc: Global,
     shelf: &mut S,

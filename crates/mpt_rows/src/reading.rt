@@ -3,9 +3,11 @@
 
 ghost use Rattle.std.specs.Prelude.{◌≡◌, ◌+◌, ◌*◌, IfOk, length};
 
-use crate::{Body, Pointer, Refusal, read};
+use crate::pointer::zeros;
+use crate::tables::{ONE_PROCESSOR, lone};
 use mpt_base::{Fault, Reason};
-use mpt_spec::{Base, Processor};
+use mpt_spec::Base;
+use mpt_table::{Body, Pointer, Refusal, read};
 use std::alloc::{AllocError, Global};
 use std::test::Fail;
 
@@ -13,24 +15,6 @@ use std::test::Fail;
 const POINTER: [u8; 16] = [
     0x5F, 0x4D, 0x50, 0x5F, 0x10, 0x05, 0x00, 0x00, 0x01, 0x04, 0x8B, 0x00, 0x00, 0x00, 0x00, 0x00,
 ];
-
-/// A table of one processor.
-const TABLE: [u8; 64] = [
-    0x50, 0x43, 0x4D, 0x50, 0x40, 0x00, 0x04, 0x99, // signature, base length, revision, checksum
-    0x4D, 0x50, 0x54, 0x41, 0x42, 0x20, 0x20, 0x20, // OEM id
-    0x42, 0x4F, 0x41, 0x52, 0x44, 0x20, 0x20, 0x20, 0x20, 0x20, 0x20, 0x20, // product id
-    0x00, 0x00, 0x00, 0x00, 0x00, 0x00, 0x01, 0x00, // OEM table, its size, entry count
-    0x00, 0x00, 0xE0, 0xFE, 0x00, 0x00, 0x00, 0x00, // local APICs, extended length and checksum
-    0x00, 0x00, 0x10, 0x03, 0x20, 0x05, 0x00, 0x00, 0xBF, 0x01, 0x00, 0x00, // a processor
-    0x00, 0x00, 0x00, 0x00, 0x00, 0x00, 0x00, 0x00, // and its reserved bytes
-];
-
-// an image of zeros
-fn zeros(alloc: Global, len: usize) -> Result<Vec<u8>, AllocError>
-    ensures { IfOk result (λ image. length image.items ≡ len) }
-{
-    vec![in alloc; 0; len]
-}
 
 // an image of 1,360 bytes: the EBDA at 500h, the floating pointer there, a table of these bytes behind it
 fn small_image(alloc: Global, table: &[u8; 64]) -> Result<Vec<u8>, AllocError>
@@ -45,7 +29,7 @@ fn small_image(alloc: Global, table: &[u8; 64]) -> Result<Vec<u8>, AllocError>
 
 #[test]
 fn describes_a_table_of_one_processor(rt: HostRuntime) -> Result<(), Fail> {
-    let image = small_image(rt.alloc(), &TABLE)?;
+    let image = small_image(rt.alloc(), &ONE_PROCESSOR)?;
     let tables = read(rt.alloc(), image.as_slice()).ok().ok_or("refused")?;
     assert_eq!(rt; tables.at, 0x500);
     let pointer = Pointer {
@@ -64,17 +48,9 @@ fn describes_a_table_of_one_processor(rt: HostRuntime) -> Result<(), Fail> {
     assert_eq!(rt; table.oem_size, 0);
     assert_eq!(rt; table.local_address, 0xFEE0_0000);
     assert_eq!(rt; table.reserved, 0);
-    let processor = Processor {
-        apic: 0x00,
-        version: 0x10,
-        flags: 0x03,
-        signature: 0x0000_0520,
-        features: 0x0000_01BF,
-        reserved: [0; 8],
-    };
     assert_eq!(rt;
         table.base.as_slice(),
-        [Base::Processor(processor)].as_slice()
+        [Base::Processor(lone(3, 0))].as_slice()
     );
     assert!(rt; table.ext.as_slice().is_empty());
     Ok(())
@@ -92,7 +68,7 @@ fn tells_the_first_fault(rt: HostRuntime) -> Result<(), Fail> {
         (&[(44, 5), (7, 0x94)], 0x53C, Reason::UnknownEntry),
     ];
     for (changes, at, why) in rows {
-        let mut table = TABLE;
+        let mut table = ONE_PROCESSOR;
         for (offset, byte) in changes {
             table[offset % 64] = *byte;
         }

@@ -1,10 +1,10 @@
 //! Entries spelled out by hand from the figures of MultiProcessor Specification 1.4, chapter 4.
 
-use crate::{
+use mpt_base::{Fault, Reason};
+use mpt_entries::{
     Base, Bus, Ext, Hierarchy, IntEntry, IoApic, Modifier, Processor, Space, Stop, read_base,
     read_ext,
 };
-use mpt_base::{Fault, Reason};
 use std::alloc::Global;
 use std::test::Fail;
 

@@ -1,17 +1,8 @@
 //! Worked cases: places of the search (MultiProcessor Specification 1.4, section 4.1).
 
-ghost use Rattle.std.specs.Prelude.{◌≡◌, IfOk, length};
-
-use crate::search_places;
-use std::alloc::{AllocError, Global};
+use crate::pointer::zeros;
+use mpt_plain::search_places;
 use std::test::Fail;
-
-// an image of zeros
-fn zeros(alloc: Global, len: usize) -> Result<Vec<u8>, AllocError>
-    ensures { IfOk result (λ image. length image.items ≡ len) }
-{
-    vec![in alloc; 0; len]
-}
 
 // The EBDA is at 500h, and the image ends in it.
 #[test]
