@@ -3,11 +3,14 @@
 
 ghost use Rattle.std.specs.Prelude.{◌≡◌};
 ghost use Rattle.mpb_spec.specs.LocalApic.{reset, ppr, next_vector, acceptance, accepted, taken, ended, after_end};
-ghost use Rattle.mpb_spec.specs.Numbers.{has};
+ghost use Rattle.mpb_spec.specs.Numbers.{has, greatest};
 
-use crate::vectors::Vectors;
+use mpb_bits::Rows;
 use mpb_spec::Accept;
 use std::marker::Model;
+
+/// A set of vectors: the numbers below 256, in four words.
+type Vectors = Rows<4>;
 
 /// A local APIC. Contracts see its three sets of vectors as strictly ascending lists.
 #[derive(Drop)]
@@ -49,11 +52,11 @@ impl Lapic {
             return Accept::Illegal;
         }
         if level {
-            self.tmr.put(vector);
+            self.tmr.put(u32::from(vector));
         } else {
-            self.tmr.take(vector);
+            self.tmr.take(u32::from(vector));
         }
-        if self.irr.put(vector) {
+        if self.irr.put(u32::from(vector)) {
             Accept::Set
         } else {
             Accept::Merged
@@ -65,7 +68,7 @@ impl Lapic {
     pub fn ppr(&self) -> u8
         ensures priority { result ≡ ppr self.now }
     {
-        match self.isr.top() {
+        match top_of(&self.isr) {
             Some(top) if top / 16 > self.tpr / 16 => top / 16 * 16,
             _ => self.tpr,
         }
@@ -76,7 +79,7 @@ impl Lapic {
     pub fn next(&self) -> Option<u8>
         ensures answer { result ≡ next_vector self.now }
     {
-        match self.irr.top() {
+        match top_of(&self.irr) {
             Some(top) if top / 16 > self.ppr() / 16 => Some(top),
             _ => None,
         }
@@ -88,8 +91,8 @@ impl Lapic {
         ensures state { self.new ≡ taken self.old }
     {
         let vector = self.next()?;
-        self.irr.take(vector);
-        self.isr.put(vector);
+        self.irr.take(u32::from(vector));
+        self.isr.put(u32::from(vector));
         Some(vector)
     }
 
@@ -99,9 +102,9 @@ impl Lapic {
         ensures answer { result ≡ ended self.old }
         ensures state { self.new ≡ after_end self.old }
     {
-        let vector = self.isr.top()?;
-        self.isr.take(vector);
-        Some((vector, self.tmr.has(vector)))
+        let vector = top_of(&self.isr)?;
+        self.isr.take(u32::from(vector));
+        Some((vector, self.tmr.has(u32::from(vector))))
     }
 
     /// Sets the task priority.
@@ -122,20 +125,28 @@ impl Lapic {
     pub fn irr(&self, v: u8) -> bool
         ensures member { result ≡ has v self.now.irr }
     {
-        self.irr.has(v)
+        self.irr.has(u32::from(v))
     }
 
     /// Whether the vector is in service.
     pub fn isr(&self, v: u8) -> bool
         ensures member { result ≡ has v self.now.isr }
     {
-        self.isr.has(v)
+        self.isr.has(u32::from(v))
     }
 
     /// Whether the vector's last interrupt was level-triggered.
     pub fn tmr(&self, v: u8) -> bool
         ensures member { result ≡ has v self.now.tmr }
     {
-        self.tmr.has(v)
+        self.tmr.has(u32::from(v))
     }
+}
+
+// the greatest vector of a set
+fn top_of(vectors: &Vectors) -> Option<u8>
+    ensures { result ≡ greatest vectors.now }
+{
+    let top = vectors.top()?;
+    Some(top as u8)
 }

@@ -3,7 +3,6 @@
 #![tactic(auto)]
 
 mod lapic;
-mod vectors;
 
 pub use lapic::Lapic;
 pub use mpb_spec::Accept;
