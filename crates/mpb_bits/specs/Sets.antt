@@ -1,7 +1,7 @@
 -- Sets of numbers in words of 64 bits, and sets as strictly ascending lists (this project's own).
 --     is_set words n     n's bit is 1
 --     members words      the numbers whose bits are 1
---     united xs ys       the members of both sets
+--     united xs ys       the members of either set
 --     IsSetBelow n xs    a strictly ascending list of numbers below n
 use Rattle.std.specs.Prelude.{◌==◌, ℕ, ◌*◌, ◌/◌, ◌%◌, ◌<◌, Bool, List, [], ◌∷◌, length, slice_index, filter}
 use Rattle.std.specs.Int.{bit_at}

@@ -1,7 +1,7 @@
 -- What a bit of the rows and a redirection tell of the pins, and what their writing changes.
 use Rattle.std.proofs.Common.{◌≡◌, ◌≢◌, ℕ, zero, suc, ◌+◌, ◌<◌, ◌≤◌, Bool, true, false, cond, List, [], ◌∷◌, length, get_or, set, replicate, refl, ap, ap₂, ◌∙◌, arith, Some, option_map, slice_get, subst}
 use Rattle.mpb_spec.specs.Numbers.{has, with_number, without}
-use Rattle.mpb_spec.specs.IoApic.{reset_pin, change_pin}
+use Rattle.mpb_spec.specs.IoApic.{reset_pin}
 use Rattle.mpb_spec.specs.declared.apic.Pin.{Pin}
 use Rattle.mpb_spec.proofs.NumberLemmas.{has-with_itself, has-with_other, has-without_itself, has-without_other}
 use Rattle.mpb_ioapic.specs.declared.redirection.Redirection.{Redirection}
@@ -98,7 +98,7 @@ pins_from-later n m p old new [] lt le w = refl
 pins_from-later n m p old new (e ∷ es) lt le w =
     ap₂ ◌∷◌ (pin_of-other n m p old new e (omega arith) (omega arith) (λ h. omega arith) w) (pins_from-later n (m + 1) p old new es (omega arith) (omega arith) w)
 
-pins_from-written : (m k : ℕ) (p : Pin) (old new : List ℕ) (es : List Redirection) → k < length es → m + length es ≤ 32 → IsWrittenAt (m + k) p old new → pins_from new m (set es k (record { low = p.low; high = p.high })) ≡ change_pin k (λ _. p) (pins_from old m es)
+pins_from-written : (m k : ℕ) (p : Pin) (old new : List ℕ) (es : List Redirection) → k < length es → m + length es ≤ 32 → IsWrittenAt (m + k) p old new → pins_from new m (set es k (record { low = p.low; high = p.high })) ≡ set (pins_from old m es) k p
 pins_from-written m k p old new [] lt le w = absurd (omega arith)
 pins_from-written m zero p old new (e ∷ es) lt le w =
     let here : m + 0 ≡ m = omega arith in
@@ -111,7 +111,7 @@ pins_from-written m (suc k) p old new (e ∷ es) lt le w =
     ap₂ ◌∷◌ (pin_of-other (m + suc k) m p old new e (omega arith) (omega arith) (λ h. omega arith) w) (pins_from-written (m + 1) k p old new es (omega arith) (omega arith) at)
 
 -- a pin is put into its place
-pub pins_of-put : (n : ℕ) (p : Pin) (rows : List ℕ) (es : List Redirection) → n < length es → length es ≤ 32 → pins_of (with_signs n p rows) (set es n (record { low = p.low; high = p.high })) ≡ change_pin n (λ _. p) (pins_of rows es)
+pub pins_of-put : (n : ℕ) (p : Pin) (rows : List ℕ) (es : List Redirection) → n < length es → length es ≤ 32 → pins_of (with_signs n p rows) (set es n (record { low = p.low; high = p.high })) ≡ set (pins_of rows es) n p
 unfolding pins_of
 pins_of-put n p rows es lt le =
     let same : n ≡ 0 + n = omega arith in

@@ -1,6 +1,6 @@
-use Rattle.std.proofs.Common.{◌≡◌, ℕ, suc, ◌-◌, ◌<◌, ◌/◌, ◌%◌, ◌^◌, ◌++◌, ◌==◌, ◌&&◌, Bool, not, cond, bit_and, length, take, drop, ap, ◌∙◌, arith, subst}
+use Rattle.std.proofs.Common.{◌≡◌, ℕ, suc, ◌-◌, ◌<◌, ◌/◌, ◌%◌, ◌^◌, ◌++◌, ◌==◌, ◌&&◌, not, bit_and, length, take, drop, ap, ◌∙◌, arith, subst}
 use Rattle.std.proofs.lemmas.Nat.Bits.{shr_and_one}
-use Rattle.mpb_spec.specs.IoApic.{pulsed, pulsed_due, pulsed_joined, takes_pulse, with_pulse}
+use Rattle.mpb_spec.specs.IoApic.{pulsed, pulsed_due, pulsed_joined, takes_pulse}
 use Rattle.mpb_ioapic.proofs.ListLemmas.{pulsed-down, pulsed_due-down, pulsed_joined-down, pulsed_due-below, pulsed_joined-below, one_bit}
 use Rattle.mpb_ioapic.proofs.pins.Pins.collect.Goals as goal
 
@@ -33,14 +33,13 @@ loop-number-preserved c =
     let p = c.at-pin.result in
     let lt : k < length ps = omega arith in
     let next : c.loop-number.number ≡ suc k = omega arith in
-    let named : (bit_and (m / 2 ^ k) 1 == 1) ≡ (m / 2 ^ k % 2 == 1) = ap (λ b. b == 1) (shr_and_one m k) in
+    let named = bit_and (m / 2 ^ k) 1 == 1 in
+    let is_named : named ≡ (m / 2 ^ k % 2 == 1) = ap (λ (b : ℕ). b == 1) (shr_and_one m k) in
     let done = subst (λ (n : ℕ). now ≡ take n ps ++ pulsed (m / 2 ^ n) (drop n ps)) next c.loop-number.invariant.pins in
     let due = subst (λ (n : ℕ). c.loop-number.due ≡ pulsed_due (m / 2 ^ n) (drop n ps)) next c.loop-number.invariant.due in
     let joined = subst (λ (n : ℕ). c.loop-number.joined ≡ pulsed_joined (m / 2 ^ n) (drop n ps)) next c.loop-number.invariant.joined in
-    let bit_due = c.pulse-taken.ensures.due ∙ ap (λ (b : Bool). cond (b && (takes_pulse p && not p.due)) 1 0) named in
-    let bit_joined = c.pulse-taken.ensures.joined ∙ ap (λ (b : Bool). cond (b && (takes_pulse p && p.due)) 1 0) named in
     record {
-      pins = c.put.ensures ∙ pulsed-down m k ps now p lt done c.at-pin.ensures c.pulse-taken.new.pin (c.pulse-taken.ensures.state ∙ ap (λ (b : Bool). cond b (with_pulse p) p) named);
-      due = omega (arith, due, bit_due, pulsed_due-down m k ps now p lt done c.at-pin.ensures);
-      joined = omega (arith, joined, bit_joined, pulsed_joined-down m k ps now p lt done c.at-pin.ensures);
+      pins = c.put.ensures ∙ pulsed-down m k ps now p named lt is_named done c.at-pin.ensures c.pulse-taken.new.pin c.pulse-taken.ensures.state;
+      due = omega (arith, due, c.pulse-taken.ensures.due, pulsed_due-down m k ps now p named lt is_named done c.at-pin.ensures);
+      joined = omega (arith, joined, c.pulse-taken.ensures.joined, pulsed_joined-down m k ps now p named lt is_named done c.at-pin.ensures);
     }

@@ -1,7 +1,7 @@
 use Rattle.std.proofs.Common.{◌∙◌, arith}
 use Rattle.mpb_spec.specs.IoApic.{with_line}
 use Rattle.mpb_spec.proofs.PinLemmas.{change-beyond, effect-beyond}
-use Rattle.mpb_ioapic.proofs.ListLemmas.{change_pin-put, effect_at-put}
+use Rattle.mpb_ioapic.proofs.ListLemmas.{set-change, effect-change}
 use Rattle.mpb_ioapic.proofs.pins.Pins.drive.Goals as goal
 
 pub returns-then-number-len-clause-state : goal.returns-then-number-len-clause-state
@@ -11,7 +11,7 @@ pub returns-then-number-len-clause-effect : goal.returns-then-number-len-clause-
 returns-then-number-len-clause-effect c = effect-beyond c.args.number (with_line c.args.high) c.args.self.now (omega arith)
 
 pub returns-clause-state : goal.returns-clause-state
-returns-clause-state c = c.put.ensures ∙ change_pin-put c.args.number (with_line c.args.high) c.args.self.now _ _ c.at-pin.ensures c.drive.ensures
+returns-clause-state c = c.put.ensures ∙ set-change c.args.number (with_line c.args.high) c.args.self.now _ _ c.at-pin.ensures c.drive.ensures
 
 pub returns-clause-effect : goal.returns-clause-effect
-returns-clause-effect c = c.effect_of.ensures ∙ effect_at-put c.args.number (with_line c.args.high) c.args.self.now _ _ c.at-pin.ensures c.drive.ensures
+returns-clause-effect c = c.effect_of.ensures ∙ effect-change c.args.number (with_line c.args.high) c.args.self.now _ _ c.at-pin.ensures c.drive.ensures

@@ -18,6 +18,6 @@ pub loop-number-preserved : goal.loop-number-preserved
 loop-number-preserved c =
     let k = c.loop-number.number - 1 in
     let next : suc k ≡ c.loop-number.number = omega arith in
-    let more = mask_by-from (shows c.args.sign) k c.args.self.now c.shows.result c.shows.ensures in
+    let more = mask_by-from (shows c.args.sign) k c.args.self.now c.shows.result (omega arith) c.shows.ensures in
     let same : mask_by (shows c.args.sign) (drop (suc k) c.args.self.now) ≡ mask_by (shows c.args.sign) (drop c.loop-number.number c.args.self.now) = ap (λ (n : ℕ). mask_by (shows c.args.sign) (drop n c.args.self.now)) next in
     omega (arith, more, same, c.loop-number.invariant, c.from.ensures, bool_byte-cond c.shows.result)
