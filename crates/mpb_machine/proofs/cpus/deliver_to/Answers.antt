@@ -1,9 +1,9 @@
-use Rattle.std.proofs.Common.{◌≡◌, ◌<◌, ◌∙◌, ◌++◌, ◌∷◌, [], List, true, false, cond, length, get_or, set, sym, refl, ap, arith, length-append}
+use Rattle.std.proofs.Common.{◌≡◌, ◌<◌, ◌∙◌, ◌++◌, ◌∷◌, [], List, true, false, length, get_or, set, sym, refl, ap, arith, length-append}
 use Rattle.std.proofs.lemmas.List.Edits.{map_over_more}
 use Rattle.mpb_spec.specs.declared.entry.Outcome.{Outcome}
 use Rattle.mpb_spec.specs.State.{Processor}
 use Rattle.mpb_spec.specs.Delivery.{is_target, delivered_to, received, outcome_at}
-use Rattle.mpb_machine.proofs.Sift.{told-yes, told-no, read-of-rest, kept-in-place}
+use Rattle.mpb_machine.proofs.Sift.{told-yes, told-no, read-of-rest}
 use Rattle.mpb_machine.proofs.cpus.deliver_to.Goals as goal
 use Rattle.mpb_machine.proofs.cpus.deliver_to.Goals.{then-is_target, else-is_target}
 

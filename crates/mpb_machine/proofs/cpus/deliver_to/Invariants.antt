@@ -1,7 +1,5 @@
-use Rattle.std.proofs.Common.{◌≡◌, ◌≤◌, ◌++◌, map, take, drop, filter, cond, length}
-use Rattle.mpb_spec.specs.declared.entry.Outcome.{Outcome}
-use Rattle.mpb_spec.specs.State.{Processor}
-use Rattle.mpb_spec.specs.Delivery.{is_target, received, answer, outcome_at, delivered_to}
+use Rattle.std.proofs.Common.{◌≡◌, ◌≤◌, ◌++◌, map, take, drop, filter, length}
+use Rattle.mpb_spec.specs.Delivery.{is_target, outcome_at, delivered_to}
 use Rattle.mpb_machine.proofs.cpus.deliver_to.Given as goal
 
 -- the processors before this one have the message, and their outcomes are told

@@ -1,9 +1,7 @@
-use Rattle.std.proofs.Common.{◌≡◌, ◌∙◌, sym, ap, arith, map, true, false, Some, None, Option}
-use Rattle.mpb_spec.specs.declared.entry.What.{What}
-use Rattle.mpb_spec.specs.IoApic.{IoChip, with_line, change_pin, with_sent, written}
-use Rattle.mpb_spec.specs.State.{Place}
-use Rattle.mpb_spec.specs.Steps.{with_chip, with_pins_of, collected, due_of}
-use Rattle.mpb_spec.specs.Outcomes.{of_write, of_read, of_line, of_collect}
+use Rattle.std.proofs.Common.{sym, ap, arith}
+use Rattle.mpb_spec.specs.IoApic.{with_line, change_pin}
+use Rattle.mpb_spec.specs.Steps.{with_chip, with_pins_of}
+use Rattle.mpb_spec.specs.Outcomes.{of_line}
 use Rattle.mpb_spec.proofs.StateLemmas.{changed_at, changed_beyond, got_at, got_beyond}
 use Rattle.mpb_machine.proofs.places.drive.Goals as goal
 
