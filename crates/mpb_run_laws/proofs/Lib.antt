@@ -1,1 +1,5 @@
 pub mod Examples
+pub mod Places
+pub mod Frames
+pub mod Acts
+pub mod StepsKeep
