@@ -87,6 +87,23 @@ last-op ws n a e =
       (λ h. inr (let z : 0 < length (ops (drop (suc n) (acts_of ws))) = Rattle.std.proofs.Common.subst (λ xs. 0 < length (ops xs)) (sym h.1) (some-ops h.0) in omega arith))
       (acts-last ws n a e)
 
+words-end : (ws : List DevWord) (n : ℕ) → slice_get (map act.Word ws ++ act.End ∷ []) n ≡ Some act.End → drop (suc n) (map act.Word ws ++ act.End ∷ []) ≡ []
+words-end [] zero e = refl
+words-end [] (suc n) e = cc
+words-end (w ∷ ws) zero e = cc
+words-end (w ∷ ws) (suc n) e = words-end ws n e
+
+acts-end : (ws : List DevWord) (n : ℕ) → slice_get (acts_of ws) n ≡ Some act.End → drop (suc n) (acts_of ws) ≡ []
+acts-end ws zero e = cc
+acts-end ws (suc n) e = words-end ws n e
+
+-- no op is left behind the end
+pub end-is-last : (ws : List DevWord) (n : ℕ) → slice_get (acts_of ws) n ≡ Some act.End → length (ops (take (suc n) (acts_of ws))) < length (ops (acts_of ws)) → ⊥
+end-is-last ws n e l =
+    let lengths : length (ops (acts_of ws)) ≡ length (ops (take (suc n) (acts_of ws))) + length (ops (drop (suc n) (acts_of ws))) = ap (λ xs. length xs) (ops-split (acts_of ws) (suc n)) ∙ length-append (ops (take (suc n) (acts_of ws))) (ops (drop (suc n) (acts_of ws))) in
+    let z : length (ops (drop (suc n) (acts_of ws))) ≡ 0 = ap (λ xs. length (ops xs)) (acts-end ws n e) in
+    absurd (omega arith)
+
 -- where an act is left, an op is left
 pub op-left : (ws : List DevWord) (n : ℕ) (a : Act) → slice_get (acts_of ws) n ≡ Some a → length (ops (take n (acts_of ws))) < length (ops (acts_of ws))
 op-left ws n a e =

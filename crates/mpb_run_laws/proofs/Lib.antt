@@ -3,3 +3,4 @@ pub mod Places
 pub mod Frames
 pub mod Acts
 pub mod StepsKeep
+pub mod DevicesKeep

@@ -1,5 +1,5 @@
 -- One member of a list changed, and members of lists that a change leaves.
-use Rattle.std.proofs.Common.{◌≡◌, ◌≢◌, ℕ, zero, suc, ◌+◌, ◌<◌, List, [], ◌∷◌, length, map, get_or, set, slice_get, sum_by, refl, sym, ap, ◌∙◌, Option, None, Some, arith}
+use Rattle.std.proofs.Common.{◌≡◌, ◌≢◌, ℕ, zero, suc, ◌+◌, ◌<◌, ◌≤◌, List, [], ◌∷◌, length, map, get_or, set, slice_get, sum_by, refl, sym, ap, ◌∙◌, Option, None, Some, arith}
 use Rattle.std.specs.Option.{option_map}
 use Rattle.std.proofs.lemmas.List.Sums.{sum_by-cons}
 use Rattle.mpb_spec.specs.State.{change_at}
@@ -52,6 +52,12 @@ pub sum-change : {X : Type 0} (g : X → ℕ) (f : X → X) (n : ℕ) (xs : List
 sum-change g f n [] x e = cc
 sum-change g f zero (y ∷ xs) x e = let same : y ≡ x = cc in rw (sum_by-cons g (f y) xs, sum_by-cons g y xs) (rw same (omega arith))
 sum-change g f (suc n) (y ∷ xs) x e = let h = sum-change g f n xs x e in rw (sum_by-cons g y (change_at n f xs), sum_by-cons g y xs) (omega arith)
+
+-- a member's part of a sum
+pub sum-at : {X : Type 0} (g : X → ℕ) (n : ℕ) (xs : List X) (x : X) → slice_get xs n ≡ Some x → g x ≤ sum_by g xs
+sum-at g n [] x e = cc
+sum-at g zero (y ∷ xs) x e = let same : g y ≡ g x = ap g (let s : y ≡ x = cc in s) in rw (sum_by-cons g y xs) (omega arith)
+sum-at g (suc n) (y ∷ xs) x e = let h = sum-at g n xs x e in rw (sum_by-cons g y xs) (omega arith)
 
 -- a member that is there
 pub inside : {X : Type 0} (n : ℕ) (xs : List X) (x : X) → slice_get xs n ≡ Some x → n < length xs
