@@ -4,3 +4,4 @@ pub mod Frames
 pub mod Acts
 pub mod StepsKeep
 pub mod DevicesKeep
+pub mod TurnsKeep

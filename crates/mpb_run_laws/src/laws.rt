@@ -5,7 +5,7 @@ ghost use Rattle.mpb_run_laws.specs.RoundRobin.{Run};
 ghost use Rattle.mpb_run_laws.specs.Rest.{IsRun, done_in};
 
 /// Trial.
-#[tactic(auto, using(crate::proofs::DevicesKeep::devices))]
+#[tactic(auto, using(crate::proofs::TurnsKeep::turns))]
 pub fn trial()
     ensures { (r : Run) → IsRun r → done_in r ≡ done_in r }
 {}
