@@ -1,0 +1,8 @@
+//! Laws of complete boots: how a board ends, and that its boot program started each processor once.
+//! A law is the contract of a function that does nothing: it holds of every config and every journal.
+#![tactic(auto)]
+
+mod rest;
+mod starts;
+
+pub use starts::complete_boots_start_each_processor_once;
