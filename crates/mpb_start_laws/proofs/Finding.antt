@@ -1,5 +1,5 @@
 -- The processor with an id, in a list of distinct ids, and after a change that keeps ids.
-use Rattle.std.proofs.Common.{◌≡◌, ◌≢◌, ◌==◌, ℕ, zero, suc, ◌<◌, Bool, true, false, cond, List, [], ◌∷◌, length, get_or, map, refl, sym, ap, ◌∙◌, arith, Option, Some, None, slice_get, inl, inr, ◌⊎◌, subst}
+use Rattle.std.proofs.Common.{◌≡◌, ◌≢◌, ◌==◌, ℕ, zero, suc, ◌+◌, ◌<◌, ◌≤◌, Bool, true, false, cond, List, [], ◌∷◌, ◌++◌, length, take, get_or, map, refl, sym, ap, ◌∙◌, arith, Option, Some, None, slice_get, inl, inr, ◌⊎◌, subst}
 use Rattle.std.specs.List.{AllByRecursion, Contains}
 use Rattle.std.proofs.lemmas.Bool.{ne_eqb, eq-eqb, eqb-true, eqb-false}
 use Rattle.mpb_spec.specs.Numbers.{IsAscending}
@@ -40,13 +40,6 @@ found_id d (x ∷ ps) p e = go (x.id == d) refl e (found_id d ps p) where
   go : (b : Bool) → (x.id == d) ≡ b → cond b (Some x) (processor_of d ps) ≡ Some p → (processor_of d ps ≡ Some p → p.id ≡ d) → p.id ≡ d
   go true t e rest = let same : x ≡ p = cc in subst (λ (q : Processor). q.id ≡ d) same (eqb-true x.id d t)
   go false t e rest = rest e
-
-pub found_all : (P : Processor → Type 0) (d : ℕ) (ps : List Processor) (p : Processor) → AllByRecursion P ps → processor_of d ps ≡ Some p → P p
-found_all P d [] p all e = cc
-found_all P d (x ∷ ps) p all e = go (x.id == d) e (found_all P d ps p all.1) where
-  go : (b : Bool) → cond b (Some x) (processor_of d ps) ≡ Some p → (processor_of d ps ≡ Some p → P p) → P p
-  go true e rest = let same : x ≡ p = cc in subst P same all.0
-  go false e rest = rest e
 
 -- after a change of all
 pub found_map : (d : ℕ) (k : Processor → Processor) (ps : List Processor) (p : Processor) → KeepsId k → processor_of d ps ≡ Some p → processor_of d (map k ps) ≡ Some (k p)
@@ -96,3 +89,74 @@ found_in d (x ∷ ps) p e = go (x.id == d) e (found_in d ps p) where
   go : (b : Bool) → cond b (Some x) (processor_of d ps) ≡ Some p → (processor_of d ps ≡ Some p → Contains (plans_of ps) (plan_of p)) → Contains (plans_of (x ∷ ps)) (plan_of p)
   go true e rest = let same : x ≡ p = cc in (0, omega arith, ap plan_of same)
   go false e rest = let h = rest e in (suc h.0, omega (arith, h.1), h.2)
+
+-- a member of a list of distinct ids is found by its id
+pub found_member : (ps : List Processor) (q : Processor) → IsAscending (map (λ p. p.id) ps) → Contains ps q → processor_of q.id ps ≡ Some q
+found_member [] q up h = absurd (omega (arith, h.1))
+found_member (x ∷ ps) q up h = elim (head_or x ps q h) [
+  | inl e ↦ subst (λ (y : Processor). processor_of q.id (y ∷ ps) ≡ Some q) (sym e) (rw (eq-eqb q.id q.id refl) refl)
+  | inr later ↦
+      let above : x.id < q.id = member (λ (p : Processor). x.id < p.id) ps q (all-map ps up.0) later in
+      rw (ne_eqb x.id q.id (λ h. omega (arith, h, above))) (found_member ps q up.1 later)
+] where
+  all-map : (qs : List Processor) → AllByRecursion (λ y. x.id < y) (map (λ p. p.id) qs) → AllByRecursion (λ (p : Processor). x.id < p.id) qs
+  all-map [] all = tt
+  all-map (p ∷ qs) all = (all.0, all-map qs all.1)
+
+-- and one that is found is a member
+pub found_here : (d : ℕ) (ps : List Processor) (p : Processor) → processor_of d ps ≡ Some p → Contains ps p
+found_here d [] p e = cc
+found_here d (x ∷ ps) p e = go (x.id == d) e (found_here d ps p) where
+  go : (b : Bool) → cond b (Some x) (processor_of d ps) ≡ Some p → (processor_of d ps ≡ Some p → Contains ps p) → Contains (x ∷ ps) p
+  go true e rest = let same : x ≡ p = cc in (0, omega arith, same)
+  go false e rest = let h = rest e in (suc h.0, omega (arith, h.1), h.2)
+
+-- a member of a list stands at an index, and one that is read there is a member
+pub index_of : {X : Type 0} (xs : List X) (x : X) → Contains xs x → (n : ℕ) × (slice_get xs n ≡ Some x)
+index_of [] x h = absurd (omega (arith, h.1))
+index_of (y ∷ xs) x h = elim (head_or y xs x h) [ inl e ↦ (0, ap Some e) | inr later ↦ let r = index_of xs x later in (suc r.0, r.1) ]
+
+pub read_here : {X : Type 0} (xs : List X) (n : ℕ) (x : X) → slice_get xs n ≡ Some x → Contains xs x
+read_here [] n x e = cc
+read_here (y ∷ xs) zero x e = let same : y ≡ x = cc in (0, omega arith, same)
+read_here (y ∷ xs) (suc n) x e = let r = read_here xs n x e in (suc r.0, omega (arith, r.1), r.2)
+
+-- what is read lies inside, and nothing is read past the end
+pub read_within : {X : Type 0} (xs : List X) (n : ℕ) (x : X) → slice_get xs n ≡ Some x → n < length xs
+read_within [] n x e = cc
+read_within (y ∷ xs) zero x e = omega arith
+read_within (y ∷ xs) (suc n) x e = omega (arith, read_within xs n x e)
+
+pub none_past : {X : Type 0} (xs : List X) (n : ℕ) → slice_get xs n ≡ None → length xs ≤ n
+none_past [] n e = omega arith
+none_past (y ∷ xs) zero e = cc
+none_past (y ∷ xs) (suc n) e = omega (arith, none_past xs n e)
+
+pub past_none : {X : Type 0} (xs : List X) (n : ℕ) → length xs ≤ n → slice_get xs n ≡ None
+past_none [] n le = refl
+past_none (y ∷ xs) zero le = absurd (omega arith)
+past_none (y ∷ xs) (suc n) le = past_none xs n (omega arith)
+
+-- after a first part
+pub read_after : {X : Type 0} (xs : List X) (y : X) (ys : List X) → slice_get (xs ++ y ∷ ys) (length xs) ≡ Some y
+read_after [] y ys = refl
+read_after (x ∷ xs) y ys = read_after xs y ys
+
+pub read_later : {X : Type 0} (xs ys : List X) (n : ℕ) → slice_get (xs ++ ys) (length xs + n) ≡ slice_get ys n
+read_later [] ys n = ap (slice_get ys) (omega arith)
+read_later (x ∷ xs) ys n =
+    let next : suc (length xs) + n ≡ suc (length xs + n) = omega arith in
+    ap (slice_get (x ∷ (xs ++ ys))) next ∙ read_later xs ys n
+
+-- in a first part
+pub read_taken : {X : Type 0} (n : ℕ) (xs : List X) (i : ℕ) (x : X) → slice_get (take n xs) i ≡ Some x → (i < n) × (slice_get xs i ≡ Some x)
+read_taken zero xs i x e = cc
+read_taken (suc n) [] i x e = cc
+read_taken (suc n) (y ∷ xs) zero x e = (omega arith, e)
+read_taken (suc n) (y ∷ xs) (suc i) x e = let r = read_taken n xs i x e in (omega (arith, r.0), r.1)
+
+pub taken_read : {X : Type 0} (n : ℕ) (xs : List X) (i : ℕ) (x : X) → i < n → slice_get xs i ≡ Some x → slice_get (take n xs) i ≡ Some x
+taken_read zero xs i x lt e = absurd (omega arith)
+taken_read (suc n) [] i x lt e = e
+taken_read (suc n) (y ∷ xs) zero x lt e = e
+taken_read (suc n) (y ∷ xs) (suc i) x lt e = taken_read n xs i x (omega arith) e

@@ -5,3 +5,7 @@ pub mod LifeSteps
 pub mod BootSteps
 pub mod Standing
 pub mod Told
+pub mod Opening
+pub mod Through
+pub mod StartedOnce
+pub mod RestLemmas

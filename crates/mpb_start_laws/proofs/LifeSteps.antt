@@ -12,47 +12,53 @@ use Rattle.mpb_spec.specs.State.{Processor, BoardState, runs, processor_of, chan
 use Rattle.mpb_spec.specs.Delivery.{is_target, received, delivered_to}
 use Rattle.mpb_spec.specs.Steps.{after, effect_of_op, effect_of_cpu, with_apic, due_at, kind_of, deliver_kind, sent_message}
 use Rattle.mpb_spec.specs.Requests.{is_cpu}
-use Rattle.mpb_start_laws.proofs.Finding.{KeepsId, found_id, found_map, found_change}
+use Rattle.mpb_spec.specs.Plan.{CpuPlan}
+use Rattle.mpb_start_laws.proofs.Finding.{plan_of, KeepsId, found_id, found_map, found_change}
 use Rattle.mpb_start_laws.proofs.StartPages.{call_at, call_if, life_after}
 
 -- the processor d, which is p before, after an op: its life, and its position
 pub record Goes (s t : BoardState) (d : ℕ) (m : Option Delivery) (n : ℕ) (p : Processor) : Type 0 where
   pub now : Processor
   pub found : processor_of d t.processors ≡ Some now
+  pub plan : plan_of now ≡ plan_of p
   pub life : now.life ≡ life_after s.warm p.version m p.life
   pub position : now.position ≡ p.position + n
 
 -- a processor that keeps its life and its position
 stays : (s t : BoardState) (d : ℕ) (p : Processor) → processor_of d t.processors ≡ Some p → Goes s t d None 0 p
-stays s t d p e = record { now = p; found = e; life = refl; position = omega arith }
+stays s t d p e = record { now = p; found = e; plan = refl; life = refl; position = omega arith }
 
 -- a processor with another local APIC
 apic-goes : (s t : BoardState) (d id : ℕ) (f : LocalApic → LocalApic) (p : Processor) → processor_of d t.processors ≡ Some (cond (id == d) (with_apic f p) p) → Goes s t d None 0 p
 apic-goes s t d id f p e = record {
   now = cond (id == d) (with_apic f p) p;
   found = e;
+  plan = elim (id == d) as (λ b. plan_of (cond b (with_apic f p) p) ≡ plan_of p) [ true ↦ refl | false ↦ refl ];
   life = elim (id == d) as (λ b. (cond b (with_apic f p) p).life ≡ p.life) [ true ↦ refl | false ↦ refl ];
   position = elim (id == d) as (λ b. (cond b (with_apic f p) p).position ≡ p.position + 0) [ true ↦ omega arith | false ↦ omega arith ];
 }
 
 -- a target
 record GoesBy (warm : Option ℕ) (m : Delivery) (p q : Processor) : Type 0 where
-  id : q.id ≡ p.id
+  plan : plan_of q ≡ plan_of p
   life : q.life ≡ life_after warm p.version (Some m) p.life
   position : q.position ≡ p.position
 
 received-goes : (warm : Option ℕ) (m : Delivery) (p : Processor) → GoesBy warm m p (received warm m p)
 received-goes warm (sends.Fixed u level) p = elim (runs p.life) as (λ b. GoesBy warm (sends.Fixed u level) p (cond b (record p { apic = accepted u level p.apic }) p)) [
-  | true ↦ record { id = refl; life = refl; position = refl }
-  | false ↦ record { id = refl; life = refl; position = refl }
+  | true ↦ record { plan = refl; life = refl; position = refl }
+  | false ↦ record { plan = refl; life = refl; position = refl }
 ]
-received-goes warm sends.Nmi p = record { id = refl; life = refl; position = refl }
-received-goes warm sends.Pass p = record { id = refl; life = refl; position = refl }
-received-goes warm sends.Init p = record { id = refl; life = refl; position = refl }
-received-goes warm (sends.Startup page) p = record { id = refl; life = refl; position = refl }
+received-goes warm sends.Nmi p = record { plan = refl; life = refl; position = refl }
+received-goes warm sends.Pass p = record { plan = refl; life = refl; position = refl }
+received-goes warm sends.Init p = record { plan = refl; life = refl; position = refl }
+received-goes warm (sends.Startup page) p = record { plan = refl; life = refl; position = refl }
+
+delivered-plan : (warm : Option ℕ) (all dest : ℕ) (m : Delivery) (p : Processor) → plan_of (delivered_to warm all dest m p) ≡ plan_of p
+delivered-plan warm all dest m p = elim (is_target all dest p) as (λ b. plan_of (cond b (received warm m p) p) ≡ plan_of p) [ true ↦ (received-goes warm m p).plan | false ↦ refl ]
 
 delivered-id : (warm : Option ℕ) (all dest : ℕ) (m : Delivery) → KeepsId (delivered_to warm all dest m)
-delivered-id warm all dest m p = elim (is_target all dest p) as (λ b. (cond b (received warm m p) p).id ≡ p.id) [ true ↦ (received-goes warm m p).id | false ↦ refl ]
+delivered-id warm all dest m p = ap (λ (c : CpuPlan). c.id) (delivered-plan warm all dest m p)
 
 -- after a message
 message-goes : (s t : BoardState) (d all dest : ℕ) (m : Delivery) (p : Processor) → t.processors ≡ map (delivered_to s.warm all dest m) s.processors → processor_of d s.processors ≡ Some p
@@ -60,6 +66,7 @@ message-goes : (s t : BoardState) (d all dest : ℕ) (m : Delivery) (p : Process
 message-goes s t d all dest m p is e = record {
   now = delivered_to s.warm all dest m p;
   found = rw is (found_map d (delivered_to s.warm all dest m) s.processors p (delivered-id s.warm all dest m) e);
+  plan = delivered-plan s.warm all dest m p;
   life = rw target (elim ((dest == all) || (d == dest)) as (λ b. (cond b (received s.warm m p) p).life ≡ life_after s.warm p.version (call_if b m) p.life) [ true ↦ (received-goes s.warm m p).life | false ↦ refl ]);
   position = elim (is_target all dest p) as (λ b. (cond b (received s.warm m p) p).position ≡ p.position + 0) [ true ↦ omega (arith, (received-goes s.warm m p).position) | false ↦ omega arith ];
 } where
@@ -70,7 +77,7 @@ message-goes s t d all dest m p is e = record {
 plain-goes : (s t : BoardState) (d all dest : ℕ) (m : Delivery) (p : Processor) → ((l : _) → life_after s.warm p.version (Some m) l ≡ l) → t.processors ≡ map (delivered_to s.warm all dest m) s.processors → processor_of d s.processors ≡ Some p → Goes s t d None 0 p
 plain-goes s t d all dest m p plain is e =
     let h = message-goes s t d all dest m p is e in
-    record { now = h.now; found = h.found; life = h.life ∙ one ((dest == all) || (d == dest)); position = h.position } where
+    record { now = h.now; found = h.found; plan = h.plan; life = h.life ∙ one ((dest == all) || (d == dest)); position = h.position } where
       one : (b : Bool) → life_after s.warm p.version (call_if b m) p.life ≡ p.life
       one true = plain p.life
       one false = refl
@@ -114,6 +121,7 @@ advanced-goes : (s t : BoardState) (d id : ℕ) (m : Option Delivery) (p : Proce
 advanced-goes s t d id m p h = record {
   now = cond (id == d) (record h.now { position = suc h.now.position }) h.now;
   found = found_change d id (λ x. record x { position = suc x.position }) t.processors h.now (λ x. refl) h.found;
+  plan = elim (id == d) as (λ b. plan_of (cond b (record h.now { position = suc h.now.position }) h.now) ≡ plan_of p) [ true ↦ h.plan | false ↦ h.plan ];
   life = elim (id == d) as (λ b. (cond b (record h.now { position = suc h.now.position }) h.now).life ≡ life_after s.warm p.version m p.life) [ true ↦ h.life | false ↦ h.life ];
   position = elim (id == d) as (λ b. (cond b (record h.now { position = suc h.now.position }) h.now).position ≡ p.position + cond b 1 0) [ true ↦ omega (arith, h.position) | false ↦ omega (arith, h.position) ];
 }

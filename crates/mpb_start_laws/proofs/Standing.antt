@@ -42,30 +42,23 @@ is_new r = nat_le 16 r.version
 -- what the config says: processor b has the pair of ops that starts processor r
 pub record Starts (page early late : ℕ) (c : Plan) (b r : CpuPlan) : Type 0 where
   pub named : AllByRecursion (λ p. AllByRecursion (IsAtPage page) p.program) c.cpus
-  pub ascending : IsAscending (map (λ p. p.id) c.cpus)
-  pub boot : Contains c.cpus b
-  pub other : Contains c.cpus r
   pub early_at : slice_get b.program early ≡ Some (early_op (is_new r) r.id page)
   pub late_at : slice_get b.program late ≡ Some (late_op (is_new r) r.id page)
   pub order : early < late
 
--- the state: b runs, and past the first op of the pair r is ready, past the second it runs
+-- the state: past the first op of the pair r is ready, past the second it runs
 pub record IsUnderWay (page early late : ℕ) (c : Plan) (b r : CpuPlan) (s : BoardState) : Type 0 where
   pub plans : plans_of s.processors ≡ c.cpus
   pub warm : IsWarmAt page s.warm
   pub first : Processor
   pub first_found : processor_of b.id s.processors ≡ Some first
   pub first_plan : plan_of first ≡ b
-  pub first_life : first.life ≡ life.First
   pub other : Processor
   pub other_found : processor_of r.id s.processors ≡ Some other
   pub other_plan : plan_of other ≡ r
   pub other_life : IsLifeOf page r.version other.life
   pub ready : early < first.position → is_ready (is_new r) s.warm other.life ≡ true
   pub running : late < first.position → runs other.life ≡ true
-
-some-is : (p q : Processor) (r : Option Processor) → r ≡ Some p → r ≡ Some q → p ≡ q
-some-is p q r e f = cc
 
 -- the op of a step names no other page
 names : (page : ℕ) (c : Plan) (s : BoardState) (g : Agent) (f : Offer) (o : Op) → AllByRecursion (λ p. AllByRecursion (IsAtPage page) p.program) c.cpus → plans_of s.processors ≡ c.cpus → next_op s g f ≡ Some o → NamesPage page g o
@@ -76,15 +69,15 @@ names page c s (Cpu id) f o named plans may =
 names page c s (Dev n) f o named plans may = tt
 names page c s (Io a) f o named plans may = tt
 
-is-own : (d : ℕ) (g : Agent) → is_cpu d g ≡ true → g ≡ Cpu d
-is-own d (Cpu id) e = ap Cpu (eqb-true id d e)
-is-own d (Dev n) e = cc
-is-own d (Io a) e = cc
+pub is_own : (d : ℕ) (g : Agent) → is_cpu d g ≡ true → g ≡ Cpu d
+is_own d (Cpu id) e = ap Cpu (eqb-true id d e)
+is_own d (Dev n) e = cc
+is_own d (Io a) e = cc
 
 -- b is one op further, where the step is its own
 own-op : (s : BoardState) (d n : ℕ) (ops : List Op) (g : Agent) (f : Offer) (o : Op) (p : Processor) → next_op s g f ≡ Some o → processor_of d s.processors ≡ Some p → p.program ≡ ops → p.position ≡ n → is_cpu d g ≡ true → slice_get ops n ≡ Some o
 own-op s d n ops g f o p may found program position e =
-    let mine : next_op s (Cpu d) f ≡ Some o = subst (λ (x : Agent). next_op s x f ≡ Some o) (is-own d g e) may in
+    let mine : next_op s (Cpu d) f ≡ Some o = subst (λ (x : Agent). next_op s x f ≡ Some o) (is_own d g e) may in
     rw (← program, ← position) (op_is_there s d f o p mine found)
 
 ready-next : (page early : ℕ) (b r : CpuPlan) (g : Agent) (o : Op) (n : ℕ) (w : Option ℕ) (l : Life) → slice_get b.program early ≡ Some (early_op (is_new r) r.id page)
@@ -99,7 +92,7 @@ ready-next page early b r g o n w l at there was past = elim (cases_lt early n) 
       let here : n ≡ early = omega (arith, le, past) in
       let read : slice_get b.program early ≡ Some o = subst (λ (i : ℕ). slice_get b.program i ≡ Some o) here (there e) in
       let op_is : early_op (is_new r) r.id page ≡ o = cc in
-      subst (λ (x : Agent). is_ready (is_new r) (warm_after x o w) (life_after w r.version (call_at r.id x o) l) ≡ true) (sym (is-own b.id g e))
+      subst (λ (x : Agent). is_ready (is_new r) (warm_after x o w) (life_after w r.version (call_at r.id x o) l) ≡ true) (sym (is_own b.id g e))
       (subst (λ (x : Op). is_ready (is_new r) (warm_after (Cpu b.id) x w) (life_after w r.version (call_at r.id (Cpu b.id) x) l) ≡ true) op_is (early_readies r.version r.id page b.id w l))
 
 running-next : (page early late : ℕ) (b r : CpuPlan) (g : Agent) (o : Op) (n : ℕ) (w : Option ℕ) (l : Life) → slice_get b.program late ≡ Some (late_op (is_new r) r.id page) → early < late
@@ -115,7 +108,7 @@ running-next page early late b r g o n w l at order there ready lawful was past 
       let read : slice_get b.program late ≡ Some o = subst (λ (i : ℕ). slice_get b.program i ≡ Some o) here (there e) in
       let op_is : late_op (is_new r) r.id page ≡ o = cc in
       let is : is_ready (is_new r) w l ≡ true = ready (omega (arith, here, order)) in
-      subst (λ (x : Agent). runs (life_after w r.version (call_at r.id x o) l) ≡ true) (sym (is-own b.id g e))
+      subst (λ (x : Agent). runs (life_after w r.version (call_at r.id x o) l) ≡ true) (sym (is_own b.id g e))
       (subst (λ (x : Op). runs (life_after w r.version (call_at r.id (Cpu b.id) x) l) ≡ true) op_is (late_starts r.version r.id page b.id w l is lawful))
 
 -- one step
@@ -123,14 +116,9 @@ goes-on : (page early late : ℕ) (c : Plan) (b r : CpuPlan) (s : BoardState) (g
 goes-on page early late c b r s g f o starts is may =
     let t : BoardState = after g o s in
     let plans : plans_of t.processors ≡ c.cpus = step_plans g o s ∙ is.plans in
-    let up : IsAscending (map (λ p. p.id) (plans_of t.processors)) = subst (λ (l : List CpuPlan). IsAscending (map (λ p. p.id) l)) (sym plans) starts.ascending in
     let named : NamesPage page g o = names page c s g f o starts.named is.plans may in
     let one = step_goes s b.id g o is.first is.first_found in
-    let one_there = found_plan t.processors b up (subst (λ (l : List CpuPlan). Contains l b) (sym plans) starts.boot) in
-    let one_is : one_there.0 ≡ one.now = some-is one_there.0 one.now (processor_of b.id t.processors) one_there.1 one.found in
     let two = step_goes s r.id g o is.other is.other_found in
-    let two_there = found_plan t.processors r up (subst (λ (l : List CpuPlan). Contains l r) (sym plans) starts.other) in
-    let two_is : two_there.0 ≡ two.now = some-is two_there.0 two.now (processor_of r.id t.processors) two_there.1 two.found in
     let version : is.other.version ≡ r.version = ap (λ (x : CpuPlan). x.version) is.other_plan in
     let warm : t.warm ≡ warm_after g o s.warm = step_warm g o s in
     let life : two.now.life ≡ life_after s.warm r.version (call_at r.id g o) is.other.life = subst (λ (v : ℕ). two.now.life ≡ life_after s.warm v (call_at r.id g o) is.other.life) version two.life in
@@ -141,11 +129,10 @@ goes-on page early late c b r s g f o starts is may =
       warm = subst (IsWarmAt page) (sym warm) (warm_stays_at page g o s.warm named is.warm);
       first = one.now;
       first_found = one.found;
-      first_plan = ap plan_of (sym one_is) ∙ one_there.2;
-      first_life = one.life ∙ ap (life_after s.warm is.first.version (call_at b.id g o)) is.first_life ∙ first_stays is.first.version s.warm (call_at b.id g o);
+      first_plan = one.plan ∙ is.first_plan;
       other = two.now;
       other_found = two.found;
-      other_plan = ap plan_of (sym two_is) ∙ two_there.2;
+      other_plan = two.plan ∙ is.other_plan;
       other_life = subst (IsLifeOf page r.version) (sym life) (life_stays_lawful page r.version r.id g o s.warm is.other.life named is.warm is.other_life);
       ready = λ past. rw (warm, life) (ready-next page early b r g o is.first.position s.warm is.other.life starts.early_at there is.ready (omega (arith, past, one.position)));
       running = λ past. rw life (running-next page early late b r g o is.first.position s.warm is.other.life starts.late_at starts.order there is.ready is.other_life is.running (omega (arith, past, one.position)));

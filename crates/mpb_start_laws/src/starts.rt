@@ -8,7 +8,6 @@ ghost use Rattle.mpb_spec.specs.Journal.{IsComplete};
 ghost use Rattle.mpb_start_laws.specs.Starts.{IsStartedOnce};
 
 /// A complete journal of a config whose boot program starts each processor has started each, once, at the page.
-#[tactic(auto, using(crate::proofs::Finding::found_plan, crate::proofs::StartPages::step_pages, crate::proofs::PlansStay::plans_stay, crate::proofs::LifeSteps::step_goes, crate::proofs::Standing::run_goes_on, crate::proofs::Told::run_told))]
 pub fn complete_boots_start_each_processor_once()
     ensures { (page : ℕ) (c : Plan) (journal : List AnEntry) → IsConfig c → IsStartableAt page c → IsComplete c journal → IsStartedOnce page c journal }
 {}
