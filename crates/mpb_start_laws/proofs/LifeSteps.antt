@@ -13,8 +13,8 @@ use Rattle.mpb_spec.specs.Delivery.{is_target, received, delivered_to}
 use Rattle.mpb_spec.specs.Steps.{after, effect_of_op, effect_of_cpu, with_apic, due_at, kind_of, deliver_kind, sent_message}
 use Rattle.mpb_spec.specs.Requests.{is_cpu}
 use Rattle.mpb_spec.specs.Plan.{CpuPlan}
-use Rattle.mpb_start_laws.proofs.Finding.{plan_of, KeepsId, found_id, found_map, found_change}
-use Rattle.mpb_start_laws.proofs.StartPages.{call_at, call_if, life_after}
+use Rattle.mpb_start_laws.proofs.Processors.{plan_of, KeepsId, found_id, found_map, found_change}
+use Rattle.mpb_start_laws.proofs.Calls.{call_at, call_if, life_after}
 
 -- the processor d, which is p before, after an op: its life, and its position
 pub record Goes (s t : BoardState) (d : ℕ) (m : Option Delivery) (n : ℕ) (p : Processor) : Type 0 where

@@ -9,11 +9,11 @@ use Rattle.mpb_spec.specs.State.{Processor, BoardState, processor_of}
 use Rattle.mpb_spec.specs.Plan.{Plan, CpuPlan, initial_state_of, first_processor}
 use Rattle.mpb_spec.specs.Configs.{IsConfig}
 use Rattle.mpb_spec.specs.Journal.{after_entry, final_state_of}
-use Rattle.mpb_start_laws.proofs.Finding.{plan_of, plans_of, found_plan}
-use Rattle.mpb_start_laws.proofs.StartPages.{call_at, life_after}
+use Rattle.mpb_start_laws.proofs.Processors.{plan_of, plans_of, found_plan}
+use Rattle.mpb_start_laws.proofs.Calls.{call_at, life_after}
 use Rattle.mpb_start_laws.proofs.PlansStay.{first_plans}
 use Rattle.mpb_start_laws.proofs.LifeSteps.{step_goes}
-use Rattle.mpb_start_laws.proofs.BootSteps.{first_stays}
+use Rattle.mpb_start_laws.proofs.LivesGoOn.{first_stays}
 
 -- a processor at first
 first-is : (boot d : ℕ) (cs : List CpuPlan) (p : Processor) → processor_of d (map (first_processor boot) cs) ≡ Some p → p ≡ first_processor boot (plan_of p)

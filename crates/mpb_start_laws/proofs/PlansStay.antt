@@ -14,7 +14,7 @@ use Rattle.mpb_spec.specs.Delivery.{is_target, received, delivered_to}
 use Rattle.mpb_spec.specs.Steps.{after, effect_of_cpu, with_apic, due_at, kind_of, deliver_kind, sent_message}
 use Rattle.mpb_spec.specs.Plan.{Plan, CpuPlan, initial_state_of, first_processor}
 use Rattle.mpb_spec.specs.Journal.{after_entry, final_state_of}
-use Rattle.mpb_start_laws.proofs.Finding.{plan_of, plans_of}
+use Rattle.mpb_start_laws.proofs.Processors.{plan_of, plans_of}
 
 abbrev KeepsPlan : (Processor → Processor) → Type 0
 KeepsPlan k = (p : Processor) → plan_of (k p) ≡ plan_of p

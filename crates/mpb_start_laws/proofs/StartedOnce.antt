@@ -13,12 +13,13 @@ use Rattle.mpb_spec.specs.Plan.{Plan, CpuPlan, initial_state_of, first_processor
 use Rattle.mpb_spec.specs.Configs.{IsConfig, IsStartableAt, IsStartedBy, IsFollowedBy, boot_ops, boot_part}
 use Rattle.mpb_spec.specs.Journal.{IsLegal, IsComplete, final_state_of}
 use Rattle.mpb_start_laws.specs.Starts.{starts_at, IsStartedOnce}
-use Rattle.mpb_start_laws.proofs.Finding.{plan_of, plans_of, read_after, read_later, read_taken}
-use Rattle.mpb_start_laws.proofs.StartPages.{told}
+use Rattle.mpb_start_laws.proofs.Lists.{read_after, read_later, read_taken}
+use Rattle.mpb_start_laws.proofs.Processors.{found_here, found_id, same_found, plan_of, plans_of}
+use Rattle.mpb_start_laws.specs.Starts.{life_pages}
 use Rattle.mpb_start_laws.proofs.PlansStay.{first_plans}
-use Rattle.mpb_start_laws.proofs.BootSteps.{IsLifeOf, early_op, late_op}
-use Rattle.mpb_start_laws.proofs.Standing.{Starts, IsUnderWay, is_new, run_goes_on}
-use Rattle.mpb_start_laws.proofs.Told.{run_told, up_of}
+use Rattle.mpb_start_laws.proofs.LivesGoOn.{IsLifeOf, early_op, late_op}
+use Rattle.mpb_start_laws.proofs.UnderWay.{Starts, IsUnderWay, is_new, run_goes_on}
+use Rattle.mpb_start_laws.proofs.Told.{told}
 use Rattle.mpb_start_laws.proofs.Opening.{IsBootAt, boot_at, first_found, first_life, other_life}
 use Rattle.mpb_start_laws.proofs.Through.{boot_past}
 
@@ -46,7 +47,7 @@ pair-at true id page ops h = followed (op.Init id) (op.Startup id page) ops h
 pair-at false id page ops h = followed (op.Warm page) (op.Init id) ops h
 
 -- a life that runs was started at the page
-started-at : (page version : ℕ) (l : Life) → IsLifeOf page version l → runs l ≡ true → told l ≡ page ∷ []
+started-at : (page version : ℕ) (l : Life) → IsLifeOf page version l → runs l ≡ true → life_pages l ≡ page ∷ []
 started-at page version life.Asleep is alive = cc
 started-at page version life.Waiting is alive = cc
 started-at page version (life.Started p) is alive = ap (λ (n : ℕ). n ∷ []) is
@@ -80,17 +81,11 @@ one-start page c journal q is startable complete here other =
     } in
     let ending : IsUnderWay page pair.early pair.late c b q t = run_goes_on page pair.early pair.late c b q s journal starts opening complete.legal in
     let found : processor_of b.id t.processors ≡ Some at.now = subst (λ (i : ℕ). processor_of i t.processors ≡ Some at.now) (sym at.id) at.found in
-    let same : at.now ≡ ending.first = some-is at.now ending.first (processor_of b.id t.processors) found ending.first_found in
+    let same : at.now ≡ ending.first = same_found at.now ending.first (processor_of b.id t.processors) found ending.first_found in
     let position : at.now.position ≡ ending.first.position = ap (λ (p : Processor). p.position) same in
     let alive : runs ending.other.life ≡ true = ending.running (omega (arith, boot_past c t b is at complete.quiescent, position, late.0, all)) in
-    let up : IsAscending (map (λ p. p.id) s.processors) = up_of s.processors (subst (λ (l : List CpuPlan). IsAscending (map (λ p. p.id) l)) (sym (first_plans c.boot c.cpus)) is.ascending) in
-    let tells = run_told q.id s journal (first_processor c.boot q) up (first_found c q is.ascending here) complete.legal in
-    let told_same : tells.0 ≡ ending.other = some-is tells.0 ending.other (processor_of q.id t.processors) tells.1 ending.other_found in
-    let none : told (first_processor c.boot q).life ≡ [] = ap told asleep in
-    sym (ap (λ (l : List ℕ). l ++ starts_at q.id journal) none) ∙ sym tells.2 ∙ ap (λ (p : Processor). told p.life) told_same ∙ started-at page q.version ending.other.life ending.other_life alive
-  where
-    some-is : (p q : Processor) (r : Option Processor) → r ≡ Some p → r ≡ Some q → p ≡ q
-    some-is p q r e f = cc
+    let tells : starts_at ending.other.id journal ≡ life_pages ending.other.life = told c journal is complete.legal ending.other (found_here q.id t.processors ending.other ending.other_found) in
+    ap (λ (i : ℕ). starts_at i journal) (sym (found_id q.id t.processors ending.other ending.other_found)) ∙ tells ∙ started-at page q.version ending.other.life ending.other_life alive
 
 pub started_once : (page : ℕ) (c : Plan) (journal : List Entry) → IsConfig c → IsStartableAt page c → IsComplete c journal → IsStartedOnce page c journal
 started_once page c journal is startable complete q here other = one-start page c journal q is startable complete here other

@@ -1,8 +1,11 @@
 -- Where a journal starts processors (MultiProcessor Specification 1.4, appendix B.4).
 --     starts_at id journal             the pages of the Started outcomes at the processor, in order
+--     life_pages life                  the page at which a processor was started
 --     IsStartedOnce page c journal     each processor but the boot processor was started once, at the page
 use Rattle.std.specs.Prelude.{◌≡◌, ◌≢◌, ◌==◌, ℕ, List, [], ◌∷◌, Option, None, Some, if◌then◌else◌}
 use Rattle.std.specs.List.{Contains, filter_map, flat_map}
+use Rattle.mpb_spec.specs.declared.config.Life.{Life}
+use Rattle.mpb_spec.specs.declared.config.Life.TheVariants.{Started}
 use Rattle.mpb_spec.specs.declared.entry.Entry.{Entry}
 use Rattle.mpb_spec.specs.declared.entry.Outcome.{Outcome}
 use Rattle.mpb_spec.specs.declared.entry.What.{What}
@@ -25,6 +28,11 @@ start_pages id os = filter_map (start_page id) os
 -- the pages of all Started outcomes at the processor in the journal, in order
 abbrev pub starts_at : ℕ → List Entry → List ℕ
 starts_at id journal = flat_map (λ x. start_pages id x.outcomes.items) journal
+
+-- the page at which a processor was started, where it was
+abbrev pub life_pages : Life → List ℕ
+life_pages (Started page) = page ∷ []
+life_pages l = []
 
 -- each processor but the boot processor has exactly one outcome Started, and its page is this one
 abbrev pub IsStartedOnce : ℕ → Plan → List Entry → Type 0

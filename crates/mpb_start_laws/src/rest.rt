@@ -11,7 +11,7 @@ ghost use Rattle.mpb_spec.specs.Journal.{IsComplete, final_state_of};
 ghost use Rattle.mpb_start_laws.specs.Rest.{IsDone, AwaitsVector, HasEnded, IsSwept, IsAtRest};
 
 /// At the end of a complete journal the boot processor has made its boot program.
-#[tactic(auto, using(crate::proofs::RestLemmas::through))]
+#[tactic(auto, using(crate::proofs::BootStays::through))]
 pub fn complete_boots_are_through()
     ensures { (c : Plan) (journal : List AnEntry) → IsConfig c → IsComplete c journal → boot_is_through (final_state_of c journal) ≡ true }
 {}
@@ -25,7 +25,7 @@ pub fn complete_boots_are_at_rest()
 {}
 
 /// In a state that is so, no agent may step with any offer.
-#[tactic(auto, using(crate::proofs::RestLemmas::rest_is_quiet))]
+#[tactic(auto, using(crate::proofs::Quiet::rest_is_quiet))]
 pub fn boards_at_rest_are_quiet()
     ensures { (s : BoardState) → IsAtRest s → IsQuiescent s }
 {}

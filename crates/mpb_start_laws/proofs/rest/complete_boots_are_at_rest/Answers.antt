@@ -1,4 +1,4 @@
-use Rattle.mpb_start_laws.proofs.RestLemmas.{processors_rest, devices_rest, places_rest}
+use Rattle.mpb_start_laws.proofs.Resting.{processors_rest, devices_rest, places_rest}
 use Rattle.mpb_start_laws.proofs.rest.complete_boots_are_at_rest.Goals as goal
 
 pub returns-clause-processors : goal.returns-clause-processors

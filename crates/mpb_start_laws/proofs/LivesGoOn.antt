@@ -14,7 +14,7 @@ use Rattle.mpb_spec.specs.State.{BoardState, runs}
 use Rattle.mpb_spec.specs.Delivery.{life_after_init, started_by}
 use Rattle.mpb_spec.specs.Steps.{after, effect_of_cpu, due_at, kind_of, deliver_kind, sent_message}
 use Rattle.mpb_spec.specs.Configs.{IsAtPage}
-use Rattle.mpb_start_laws.proofs.StartPages.{call_at, call_if, life_after}
+use Rattle.mpb_start_laws.proofs.Calls.{call_at, call_if, life_after}
 
 -- the warm-reset vector after an op
 abbrev pub warm_after : Agent → Op → Option ℕ → Option ℕ

@@ -18,11 +18,12 @@ use Rattle.mpb_spec.specs.Journal.{AreSteps, after_entry}
 use Rattle.mpb_spec.specs.Requests.{is_cpu}
 use Rattle.mpb_spec.proofs.Kept.{kept_op}
 use Rattle.mpb_spec.proofs.May.{may_advance_cpu}
-use Rattle.mpb_start_laws.proofs.Finding.{plan_of, plans_of, member, read_member, found_plan, found_in}
-use Rattle.mpb_start_laws.proofs.StartPages.{call_at, life_after}
+use Rattle.mpb_start_laws.proofs.Lists.{member, read_member}
+use Rattle.mpb_start_laws.proofs.Processors.{plan_of, plans_of, found_plan, found_in}
+use Rattle.mpb_start_laws.proofs.Calls.{call_at, life_after}
 use Rattle.mpb_start_laws.proofs.PlansStay.{step_plans}
 use Rattle.mpb_start_laws.proofs.LifeSteps.{Goes, own, step_goes}
-use Rattle.mpb_start_laws.proofs.BootSteps.{warm_after, step_warm, IsWarmAt, NamesPage, warm_stays_at, IsLifeOf, life_stays_lawful, first_stays, is_ready, ready_stays, running_stays, early_op, late_op, early_readies, late_starts}
+use Rattle.mpb_start_laws.proofs.LivesGoOn.{warm_after, step_warm, IsWarmAt, NamesPage, warm_stays_at, IsLifeOf, life_stays_lawful, first_stays, is_ready, ready_stays, running_stays, early_op, late_op, early_readies, late_starts}
 
 -- the op that a processor makes is the one at its position
 pub op_is_there : (s : BoardState) (id : ℕ) (f : Offer) (o : Op) (p : Processor) → next_op s (Cpu id) f ≡ Some o → processor_of id s.processors ≡ Some p → slice_get p.program p.position ≡ Some o
