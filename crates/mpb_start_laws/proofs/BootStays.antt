@@ -1,38 +1,20 @@
 -- No step changes which processor is the boot processor, so a complete journal ends past the boot program.
-use Rattle.std.proofs.Common.{◌≡◌, ◌==◌, ℕ, zero, suc, ◌+◌, ◌<◌, ◌≤◌, Bool, true, false, cond, not, ◌&&◌, List, [], ◌∷◌, length, map, refl, sym, ap, ◌∙◌, arith, Option, Some, None, slice_get, is_some, nat_le, nat_lt, ◌⊎◌, inl, inr, subst, fold}
-use Rattle.std.specs.List.{AllByRecursion, Contains, list_all}
-use Rattle.std.proofs.lemmas.Bool.{eq-eqb, le-leb, leb-true, cases_lt}
+use Rattle.std.proofs.Common.{◌≡◌, ℕ, ◌≤◌, true, List, [], ◌∷◌, refl, sym, ◌∙◌, Option, Some, None, subst, fold}
+use Rattle.std.proofs.lemmas.Bool.{le-leb}
 use Rattle.mpb_spec.specs.declared.agent.Agent.{Agent}
 use Rattle.mpb_spec.specs.declared.agent.Agent.TheVariants.{Cpu, Io, Dev}
-use Rattle.mpb_spec.specs.declared.agent.Offer.{Offer}
-use Rattle.mpb_spec.specs.declared.agent.Offer.TheVariants as offer
 use Rattle.mpb_spec.specs.declared.agent.Op.{Op}
 use Rattle.mpb_spec.specs.declared.agent.Op.TheVariants as op
 use Rattle.mpb_spec.specs.declared.apic.Delivery.{Delivery}
 use Rattle.mpb_spec.specs.declared.apic.Message.{Message}
-use Rattle.mpb_spec.specs.declared.config.DevWord.{DevWord}
 use Rattle.mpb_spec.specs.declared.entry.Entry.{Entry}
-use Rattle.mpb_spec.specs.Numbers.{IsAscending}
-use Rattle.mpb_spec.specs.LocalApic.{LocalApic, next_vector}
-use Rattle.mpb_spec.specs.IoApic.{next_due}
-use Rattle.mpb_spec.specs.State.{Processor, Place, Device, BoardState, runs, processor_of, change_at, op_at, device_op_at, boot_is_through, is_through, all_ended}
-use Rattle.mpb_spec.specs.Steps.{next_op, after, op_of_processor, op_of_device, op_of_place, unless_waiting, unless_early, send_of, all_left, effect_of_cpu, effect_of_dev, sent_message, deliver_kind, kind_of, due_at}
-use Rattle.mpb_spec.specs.May.{IsQuiescent}
-use Rattle.mpb_spec.specs.Plan.{Plan, CpuPlan, initial_state_of, first_processor, first_device}
+use Rattle.mpb_spec.specs.State.{Processor, BoardState, processor_of, boot_is_through, is_through}
+use Rattle.mpb_spec.specs.Steps.{after, sent_message, deliver_kind, kind_of, due_at}
+use Rattle.mpb_spec.specs.Plan.{Plan, initial_state_of}
 use Rattle.mpb_spec.specs.Configs.{IsConfig}
-use Rattle.mpb_spec.specs.Journal.{AreSteps, IsLegal, IsComplete, after_entry, final_state_of}
-use Rattle.mpb_spec.specs.Requests.{is_cpu}
-use Rattle.mpb_spec.proofs.May.{may_advance_dev}
-use Rattle.mpb_start_laws.specs.Rest.{IsDone, AwaitsVector, HasEnded, IsSwept, IsAtRest}
-use Rattle.mpb_start_laws.proofs.Lists.{member, index_of, read_here, none_past}
-use Rattle.mpb_start_laws.proofs.Processors.{plan_of, plans_of, found_in, found_member, found_here}
-use Rattle.std.proofs.lemmas.Option.{slice_get_within, slice_get_past}
-use Rattle.mpb_start_laws.proofs.PlansStay.{plans_stay}
-use Rattle.mpb_start_laws.proofs.LifeSteps.{step_goes}
-use Rattle.mpb_start_laws.proofs.UnderWay.{op_is_there, is_own}
-use Rattle.mpb_start_laws.proofs.Told.{up_of}
-use Rattle.mpb_start_laws.proofs.Opening.{IsBootAt, boot_at, first_found}
-use Rattle.mpb_start_laws.proofs.Through.{boot_past, idle_at}
+use Rattle.mpb_spec.specs.Journal.{IsComplete, after_entry, final_state_of}
+use Rattle.mpb_start_laws.proofs.Opening.{IsBootAt, boot_at}
+use Rattle.mpb_start_laws.proofs.Through.{boot_past}
 
 -- the boot processor and the length of its program stay
 kind-boot : (dest : ℕ) (k : Option Delivery) (s : BoardState) → ((deliver_kind dest k s).boot ≡ s.boot) × ((deliver_kind dest k s).boot_len ≡ s.boot_len)
@@ -71,4 +53,3 @@ through c journal is complete =
     subst (λ (i : ℕ). is_through (processor_of i t.processors) t.boot_len ≡ true) (sym kept.0)
     (subst (λ (n : ℕ). is_through (processor_of c.boot t.processors) n ≡ true) (sym kept.1)
     (subst (λ (r : Option Processor). is_through r c.boot_len ≡ true) (sym at.found) (le-leb c.boot_len at.now.position past)))
-

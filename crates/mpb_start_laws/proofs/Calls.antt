@@ -1,31 +1,17 @@
 -- What an INIT or a STARTUP makes of a life, and the page of its outcome: the two tell the same starts.
-use Rattle.std.proofs.Common.{◌≡◌, ◌==◌, ℕ, ◌<◌, Bool, true, false, cond, ◌||◌, List, [], ◌∷◌, ◌++◌, map, filter, refl, sym, ap, ◌∙◌, arith, Option, Some, None, slice_get, nat_le, subst}
-use Rattle.std.specs.List.{AllByRecursion, cons_option, filter_map}
-use Rattle.std.proofs.lemmas.Bool.{ne_eqb, eq-eqb, eqb-true, eqb-false}
+use Rattle.std.proofs.Common.{◌≡◌, ◌==◌, ℕ, Bool, true, false, cond, ◌||◌, List, [], ◌++◌, refl, Option, Some, None, nat_le}
+use Rattle.std.specs.List.{cons_option}
 use Rattle.mpb_spec.specs.declared.agent.Agent.{Agent}
-use Rattle.mpb_spec.specs.declared.agent.Agent.TheVariants.{Cpu, Io, Dev}
+use Rattle.mpb_spec.specs.declared.agent.Agent.TheVariants.{Cpu}
 use Rattle.mpb_spec.specs.declared.agent.Op.{Op}
 use Rattle.mpb_spec.specs.declared.agent.Op.TheVariants as op
-use Rattle.mpb_spec.specs.declared.apic.Accept.{Accept}
-use Rattle.mpb_spec.specs.declared.apic.Accept.TheVariants as accept
 use Rattle.mpb_spec.specs.declared.apic.Delivery.{Delivery}
 use Rattle.mpb_spec.specs.declared.apic.Delivery.TheVariants as sends
-use Rattle.mpb_spec.specs.declared.apic.Effect.{Effect}
-use Rattle.mpb_spec.specs.declared.apic.Effect.TheVariants as effect
-use Rattle.mpb_spec.specs.declared.apic.Message.{Message}
 use Rattle.mpb_spec.specs.declared.config.Life.{Life}
 use Rattle.mpb_spec.specs.declared.config.Life.TheVariants as life
-use Rattle.mpb_spec.specs.declared.entry.Outcome.{Outcome}
-use Rattle.mpb_spec.specs.declared.entry.What.{What}
 use Rattle.mpb_spec.specs.declared.entry.What.TheVariants as what
-use Rattle.mpb_spec.specs.Numbers.{IsAscending}
-use Rattle.mpb_spec.specs.LocalApic.{acceptance}
-use Rattle.mpb_spec.specs.IoApic.{write_effect, with_line, effect_at}
-use Rattle.mpb_spec.specs.State.{Processor, Place, BoardState, runs, processor_of}
-use Rattle.mpb_spec.specs.Delivery.{is_target, answer, outcome_at, outcomes_at, unless_absent, outcome_of_accept, life_after_init, life_after_startup, started_by, start_outcome, init_outcome, startup_outcome}
-use Rattle.mpb_spec.specs.Steps.{due_at, kind_of, kind_outcomes, send_outcomes, ended_at, vector_at}
-use Rattle.mpb_spec.specs.Outcomes.{outcomes_of, outcomes_of_cpu, only, found, found_alive, what_taken, what_ended, what_effect, of_write, of_read, of_line}
-use Rattle.mpb_start_laws.specs.Starts.{life_pages, started_page, start_page, start_pages}
+use Rattle.mpb_spec.specs.Delivery.{life_after_init, life_after_startup, started_by, start_outcome, init_outcome, startup_outcome}
+use Rattle.mpb_start_laws.specs.Starts.{life_pages, started_page}
 
 -- the page, where there is one
 abbrev pub page_list : Option ℕ → List ℕ

@@ -1,5 +1,5 @@
 -- One step at one processor: its life changes by the INIT or STARTUP that the op sends to it, and its position by an op of its own.
-use Rattle.std.proofs.Common.{◌≡◌, ◌==◌, ℕ, suc, ◌+◌, Bool, true, false, cond, ◌||◌, map, refl, sym, ap, ◌∙◌, arith, Option, Some, None, subst}
+use Rattle.std.proofs.Common.{◌≡◌, ◌==◌, ℕ, suc, ◌+◌, Bool, true, false, cond, ◌||◌, map, refl, ap, ◌∙◌, arith, Option, Some, None, subst}
 use Rattle.mpb_spec.specs.declared.agent.Agent.{Agent}
 use Rattle.mpb_spec.specs.declared.agent.Agent.TheVariants.{Cpu, Io, Dev}
 use Rattle.mpb_spec.specs.declared.agent.Op.{Op}
@@ -10,7 +10,7 @@ use Rattle.mpb_spec.specs.declared.apic.Delivery.TheVariants as sends
 use Rattle.mpb_spec.specs.LocalApic.{LocalApic, accepted, taken, after_end}
 use Rattle.mpb_spec.specs.State.{Processor, BoardState, runs, processor_of, change_processor}
 use Rattle.mpb_spec.specs.Delivery.{is_target, received, delivered_to}
-use Rattle.mpb_spec.specs.Steps.{after, effect_of_op, effect_of_cpu, with_apic, due_at, kind_of, deliver_kind, sent_message}
+use Rattle.mpb_spec.specs.Steps.{after, effect_of_cpu, with_apic, due_at, kind_of, deliver_kind, sent_message}
 use Rattle.mpb_spec.specs.Requests.{is_cpu}
 use Rattle.mpb_spec.specs.Plan.{CpuPlan}
 use Rattle.mpb_start_laws.proofs.Processors.{plan_of, KeepsId, found_id, found_map, found_change}

@@ -1,6 +1,6 @@
 -- What an op does to the warm-reset vector and to the life of a processor that is to be started.
-use Rattle.std.proofs.Common.{◌≡◌, ◌≢◌, ◌==◌, ℕ, suc, ◌+◌, ◌<◌, ◌≤◌, Bool, true, false, cond, not, ◌||◌, List, [], ◌∷◌, length, refl, sym, ap, ◌∙◌, arith, Option, Some, None, is_some, nat_le, subst}
-use Rattle.std.proofs.lemmas.Bool.{eq-eqb, eqb-true}
+use Rattle.std.proofs.Common.{◌≡◌, ◌==◌, ℕ, Bool, true, false, cond, ◌||◌, refl, Option, Some, None, is_some, nat_le}
+use Rattle.std.proofs.lemmas.Bool.{eq-eqb}
 use Rattle.mpb_spec.specs.declared.agent.Agent.{Agent}
 use Rattle.mpb_spec.specs.declared.agent.Agent.TheVariants.{Cpu, Io, Dev}
 use Rattle.mpb_spec.specs.declared.agent.Op.{Op}
@@ -12,7 +12,7 @@ use Rattle.mpb_spec.specs.declared.config.Life.{Life}
 use Rattle.mpb_spec.specs.declared.config.Life.TheVariants as life
 use Rattle.mpb_spec.specs.State.{BoardState, runs}
 use Rattle.mpb_spec.specs.Delivery.{life_after_init, started_by}
-use Rattle.mpb_spec.specs.Steps.{after, effect_of_cpu, due_at, kind_of, deliver_kind, sent_message}
+use Rattle.mpb_spec.specs.Steps.{after, due_at, kind_of, deliver_kind, sent_message}
 use Rattle.mpb_spec.specs.Configs.{IsAtPage}
 use Rattle.mpb_start_laws.proofs.Calls.{call_at, call_if, life_after}
 

@@ -1,6 +1,6 @@
 -- The opening state, and the boot processor, which never stops running.
-use Rattle.std.proofs.Common.{◌≡◌, ◌≢◌, ◌==◌, ℕ, suc, Bool, true, false, cond, ◌||◌, List, [], ◌∷◌, map, arith, refl, sym, ap, ◌∙◌, Option, Some, None, subst, fold}
-use Rattle.std.specs.List.{list_any, Contains}
+use Rattle.std.proofs.Common.{◌≡◌, ◌≢◌, ◌==◌, ℕ, suc, Bool, true, false, cond, ◌||◌, List, [], ◌∷◌, map, arith, refl, sym, ap, ◌∙◌, Some, subst, fold}
+use Rattle.std.specs.List.{Contains}
 use Rattle.std.proofs.lemmas.Bool.{eq-eqb, ne_eqb, eqb-true}
 use Rattle.mpb_spec.specs.declared.config.Life.TheVariants as life
 use Rattle.mpb_spec.specs.declared.entry.Entry.{Entry}
@@ -70,12 +70,14 @@ pub boot_at : (c : Plan) (journal : List Entry) → IsConfig c → (b : CpuPlan)
 boot_at c journal is =
     let b = boot_plan c.boot c.cpus is.boot in
     let at = first_found c b.0 is.ascending b.1 in
-    let h = run_keeps b.0.id (initial_state_of c) journal (first_processor c.boot b.0) at (first_life c b.0 b.2) in
-    (b.0, record {
-      in_plan = b.1;
-      id = b.2;
-      now = h.0;
-      found = subst (λ (i : ℕ). processor_of i (final_state_of c journal).processors ≡ Some h.0) b.2 h.1;
-      plan = h.2;
-      life = h.3;
-    })
+    let h = run_keeps b.0.id (initial_state_of c) journal (first_processor c.boot b.0) at (first_life c b.0 b.2) in (
+      b.0,
+      record {
+        in_plan = b.1;
+        id = b.2;
+        now = h.0;
+        found = subst (λ (i : ℕ). processor_of i (final_state_of c journal).processors ≡ Some h.0) b.2 h.1;
+        plan = h.2;
+        life = h.3;
+      },
+    )

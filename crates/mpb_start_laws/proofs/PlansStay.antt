@@ -8,7 +8,7 @@ use Rattle.mpb_spec.specs.declared.apic.Message.{Message}
 use Rattle.mpb_spec.specs.declared.apic.Delivery.{Delivery}
 use Rattle.mpb_spec.specs.declared.apic.Delivery.TheVariants as sends
 use Rattle.mpb_spec.specs.declared.entry.Entry.{Entry}
-use Rattle.mpb_spec.specs.LocalApic.{LocalApic, accepted, taken, after_end}
+use Rattle.mpb_spec.specs.LocalApic.{accepted, taken, after_end}
 use Rattle.mpb_spec.specs.State.{Processor, BoardState, runs, change_processor}
 use Rattle.mpb_spec.specs.Delivery.{is_target, received, delivered_to}
 use Rattle.mpb_spec.specs.Steps.{after, effect_of_cpu, with_apic, due_at, kind_of, deliver_kind, sent_message}

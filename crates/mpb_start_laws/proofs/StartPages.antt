@@ -1,7 +1,7 @@
 -- The outcomes Started of a message, at one processor.
-use Rattle.std.proofs.Common.{◌≡◌, ◌==◌, ℕ, ◌<◌, Bool, true, false, cond, ◌||◌, List, [], ◌∷◌, ◌++◌, map, filter, refl, sym, ap, ◌∙◌, arith, Option, Some, None, slice_get, nat_le, subst}
-use Rattle.std.specs.List.{AllByRecursion, cons_option, filter_map}
-use Rattle.std.proofs.lemmas.Bool.{ne_eqb, eq-eqb, eqb-true, eqb-false}
+use Rattle.std.proofs.Common.{◌≡◌, ◌==◌, ℕ, ◌<◌, Bool, true, false, cond, ◌||◌, List, [], ◌∷◌, map, filter, refl, sym, ap, ◌∙◌, arith, Option, Some, None, slice_get, subst}
+use Rattle.std.specs.List.{AllByRecursion, cons_option}
+use Rattle.std.proofs.lemmas.Bool.{ne_eqb, eqb-true}
 use Rattle.mpb_spec.specs.declared.agent.Agent.{Agent}
 use Rattle.mpb_spec.specs.declared.agent.Agent.TheVariants.{Cpu, Io, Dev}
 use Rattle.mpb_spec.specs.declared.agent.Op.{Op}
@@ -22,10 +22,10 @@ use Rattle.mpb_spec.specs.Numbers.{IsAscending}
 use Rattle.mpb_spec.specs.LocalApic.{acceptance}
 use Rattle.mpb_spec.specs.IoApic.{write_effect, with_line, effect_at}
 use Rattle.mpb_spec.specs.State.{Processor, Place, BoardState, runs, processor_of}
-use Rattle.mpb_spec.specs.Delivery.{is_target, answer, outcome_at, outcomes_at, unless_absent, outcome_of_accept, life_after_init, life_after_startup, started_by, start_outcome, init_outcome, startup_outcome}
+use Rattle.mpb_spec.specs.Delivery.{is_target, answer, outcome_at, outcomes_at, unless_absent, outcome_of_accept}
 use Rattle.mpb_spec.specs.Steps.{due_at, kind_of, kind_outcomes, send_outcomes, ended_at, vector_at}
 use Rattle.mpb_spec.specs.Outcomes.{outcomes_of, outcomes_of_cpu, only, found, found_alive, what_taken, what_ended, what_effect, of_write, of_read, of_line}
-use Rattle.mpb_start_laws.specs.Starts.{started_page, start_page, start_pages}
+use Rattle.mpb_start_laws.specs.Starts.{started_page, start_pages}
 use Rattle.mpb_start_laws.proofs.Calls.{page_list, call_if, call_at, pages_after}
 
 -- the pages at one target

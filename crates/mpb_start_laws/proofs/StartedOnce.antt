@@ -1,26 +1,25 @@
 -- A complete journal of a startable config started each other processor once.
-use Rattle.std.proofs.Common.{◌≡◌, ◌≢◌, ◌==◌, ℕ, suc, ◌+◌, ◌<◌, ◌≤◌, Bool, true, false, cond, List, [], ◌∷◌, ◌++◌, length, take, map, refl, sym, ap, ◌∙◌, arith, Option, Some, None, slice_get, nat_le, subst, fold}
-use Rattle.std.specs.List.{AllByRecursion, Contains}
+use Rattle.std.proofs.Common.{◌≡◌, ◌≢◌, ℕ, suc, ◌+◌, ◌<◌, Bool, true, false, List, [], ◌∷◌, ◌++◌, length, refl, sym, ap, ◌∙◌, arith, Some, slice_get, subst}
+use Rattle.std.specs.List.{Contains}
 use Rattle.std.proofs.lemmas.Bool.{eq-eqb}
 use Rattle.mpb_spec.specs.declared.agent.Op.{Op}
 use Rattle.mpb_spec.specs.declared.agent.Op.TheVariants as op
 use Rattle.mpb_spec.specs.declared.config.Life.{Life}
 use Rattle.mpb_spec.specs.declared.config.Life.TheVariants as life
 use Rattle.mpb_spec.specs.declared.entry.Entry.{Entry}
-use Rattle.mpb_spec.specs.Numbers.{IsAscending}
 use Rattle.mpb_spec.specs.State.{Processor, BoardState, runs, processor_of}
 use Rattle.mpb_spec.specs.Plan.{Plan, CpuPlan, initial_state_of, first_processor}
 use Rattle.mpb_spec.specs.Configs.{IsConfig, IsStartableAt, IsStartedBy, IsFollowedBy, boot_ops, boot_part}
-use Rattle.mpb_spec.specs.Journal.{IsLegal, IsComplete, final_state_of}
+use Rattle.mpb_spec.specs.Journal.{IsComplete, final_state_of}
 use Rattle.mpb_start_laws.specs.Starts.{starts_at, IsStartedOnce}
 use Rattle.mpb_start_laws.proofs.Lists.{read_after, read_later, read_taken}
-use Rattle.mpb_start_laws.proofs.Processors.{found_here, found_id, same_found, plan_of, plans_of}
+use Rattle.mpb_start_laws.proofs.Processors.{found_here, found_id, same_found}
 use Rattle.mpb_start_laws.specs.Starts.{life_pages}
 use Rattle.mpb_start_laws.proofs.PlansStay.{first_plans}
 use Rattle.mpb_start_laws.proofs.LivesGoOn.{IsLifeOf, early_op, late_op}
 use Rattle.mpb_start_laws.proofs.UnderWay.{Starts, IsUnderWay, is_new, run_goes_on}
 use Rattle.mpb_start_laws.proofs.Told.{told}
-use Rattle.mpb_start_laws.proofs.Opening.{IsBootAt, boot_at, first_found, first_life, other_life}
+use Rattle.mpb_start_laws.proofs.Opening.{IsBootAt, boot_at, first_found, other_life}
 use Rattle.mpb_start_laws.proofs.Through.{boot_past}
 
 -- where the two ops of a pair stand

@@ -1,23 +1,20 @@
 -- At the end of a complete journal the boot processor has made its boot program.
-use Rattle.std.proofs.Common.{◌≡◌, ◌==◌, ℕ, ◌<◌, ◌≤◌, Bool, true, false, cond, List, [], ◌∷◌, length, take, refl, sym, ap, ◌∙◌, arith, Option, Some, None, slice_get, is_some, nat_le, inl, inr, subst}
-use Rattle.std.specs.List.{Contains}
-use Rattle.std.proofs.lemmas.Bool.{eq-eqb, le-leb, cases_lt}
+use Rattle.std.proofs.Common.{◌≡◌, ℕ, ◌<◌, ◌≤◌, Bool, true, false, cond, List, length, take, refl, ap, arith, Option, Some, None, slice_get, inl, inr, subst}
+use Rattle.std.proofs.lemmas.Bool.{eq-eqb, cases_lt}
 use Rattle.mpb_spec.specs.declared.agent.Agent.TheVariants.{Cpu}
 use Rattle.mpb_spec.specs.declared.agent.Offer.TheVariants as offer
 use Rattle.mpb_spec.specs.declared.agent.Op.{Op}
 use Rattle.mpb_spec.specs.declared.agent.Op.TheVariants as op
 use Rattle.mpb_spec.specs.declared.config.Life.TheVariants as life
-use Rattle.mpb_spec.specs.declared.entry.Entry.{Entry}
 use Rattle.mpb_spec.specs.LocalApic.{LocalApic}
-use Rattle.mpb_spec.specs.State.{Processor, BoardState, runs, processor_of, boot_is_through, is_through}
+use Rattle.mpb_spec.specs.State.{Processor, BoardState, runs}
 use Rattle.mpb_spec.specs.Steps.{op_of_processor, unless_waiting}
 use Rattle.mpb_spec.specs.May.{IsQuiescent}
 use Rattle.mpb_spec.specs.Plan.{Plan, CpuPlan}
 use Rattle.mpb_spec.specs.Configs.{IsConfig, IsCpuPlan, is_boot_op, boot_ops}
-use Rattle.mpb_spec.specs.Journal.{IsComplete, final_state_of}
 use Rattle.mpb_start_laws.proofs.Lists.{member, read_member, none_past, taken_read}
 use Rattle.mpb_start_laws.proofs.Processors.{plan_of}
-use Rattle.mpb_start_laws.proofs.Opening.{IsBootAt, boot_at}
+use Rattle.mpb_start_laws.proofs.Opening.{IsBootAt}
 
 -- a processor that runs is idle where it is past its program, or at a Take
 pub idle_at : (p : Processor) → runs p.life ≡ true → op_of_processor (Some p) ≡ None → unless_waiting p.apic (slice_get p.program p.position) ≡ None

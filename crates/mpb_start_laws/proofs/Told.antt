@@ -1,7 +1,6 @@
 -- What a journal tells of a processor's starts is what its life is at the end.
-use Rattle.std.proofs.Common.{true, false, cond, ◌≡◌, ◌==◌, ℕ, List, [], ◌∷◌, ◌++◌, map, refl, sym, ap, ◌∙◌, append_assoc, Option, Some, None, subst, fold}
+use Rattle.std.proofs.Common.{true, false, cond, ◌≡◌, ◌==◌, ℕ, List, [], ◌∷◌, ◌++◌, map, refl, sym, ap, ◌∙◌, append_assoc, Some, subst, fold}
 use Rattle.mpb_spec.specs.declared.entry.Entry.{Entry}
-use Rattle.mpb_spec.specs.declared.entry.Outcome.{Outcome}
 use Rattle.mpb_spec.specs.declared.config.Life.{Life}
 use Rattle.mpb_spec.specs.declared.config.Life.TheVariants as life
 use Rattle.mpb_spec.specs.Numbers.{IsAscending}
@@ -11,11 +10,10 @@ use Rattle.mpb_spec.specs.Plan.{Plan, CpuPlan, initial_state_of, first_processor
 use Rattle.mpb_spec.specs.Configs.{IsConfig}
 use Rattle.mpb_start_laws.proofs.Opening.{first_found}
 use Rattle.mpb_spec.specs.Journal.{AreSteps, IsStep, IsLegal, after_entry, final_state_of}
-use Rattle.mpb_spec.specs.Outcomes.{outcomes_of}
 use Rattle.mpb_start_laws.specs.Starts.{start_pages, starts_at}
 use Rattle.mpb_start_laws.proofs.Processors.{same_found, plan_of, plans_of, found_id, found_in, found_member}
 use Rattle.mpb_start_laws.specs.Starts.{life_pages}
-use Rattle.mpb_start_laws.proofs.Calls.{told_after, call_at, life_after, pages_after}
+use Rattle.mpb_start_laws.proofs.Calls.{told_after, call_at, life_after}
 use Rattle.mpb_start_laws.proofs.StartPages.{step_pages}
 use Rattle.mpb_start_laws.proofs.PlansStay.{step_plans, plans_stay, first_plans}
 use Rattle.mpb_start_laws.proofs.LifeSteps.{step_goes}

@@ -1,15 +1,13 @@
 -- The start of one processor, over a legal journal: its life follows how far the boot processor is in its program.
-use Rattle.std.proofs.Common.{◌≡◌, ◌≢◌, ◌==◌, ℕ, suc, ◌+◌, ◌<◌, ◌≤◌, Bool, true, false, cond, List, [], ◌∷◌, ◌++◌, length, map, refl, sym, ap, ◌∙◌, arith, Option, Some, None, slice_get, nat_le, inl, inr, subst, fold}
+use Rattle.std.proofs.Common.{◌≡◌, ℕ, ◌+◌, ◌<◌, ◌≤◌, Bool, true, false, cond, List, [], ◌∷◌, refl, sym, ap, ◌∙◌, arith, Option, Some, None, slice_get, nat_le, inl, inr, subst, fold}
 use Rattle.std.specs.List.{AllByRecursion, Contains}
-use Rattle.std.proofs.lemmas.Bool.{eq-eqb, eqb-true, cases_lt}
+use Rattle.std.proofs.lemmas.Bool.{eqb-true, cases_lt}
 use Rattle.mpb_spec.specs.declared.agent.Agent.{Agent}
 use Rattle.mpb_spec.specs.declared.agent.Agent.TheVariants.{Cpu, Io, Dev}
 use Rattle.mpb_spec.specs.declared.agent.Offer.{Offer}
 use Rattle.mpb_spec.specs.declared.agent.Op.{Op}
 use Rattle.mpb_spec.specs.declared.config.Life.{Life}
-use Rattle.mpb_spec.specs.declared.config.Life.TheVariants as life
 use Rattle.mpb_spec.specs.declared.entry.Entry.{Entry}
-use Rattle.mpb_spec.specs.Numbers.{IsAscending}
 use Rattle.mpb_spec.specs.State.{Processor, BoardState, runs, processor_of, op_at}
 use Rattle.mpb_spec.specs.Steps.{next_op, after}
 use Rattle.mpb_spec.specs.Plan.{Plan, CpuPlan}
@@ -19,11 +17,11 @@ use Rattle.mpb_spec.specs.Requests.{is_cpu}
 use Rattle.mpb_spec.proofs.Kept.{kept_op}
 use Rattle.mpb_spec.proofs.May.{may_advance_cpu}
 use Rattle.mpb_start_laws.proofs.Lists.{member, read_member}
-use Rattle.mpb_start_laws.proofs.Processors.{plan_of, plans_of, found_plan, found_in}
+use Rattle.mpb_start_laws.proofs.Processors.{plan_of, plans_of, found_in}
 use Rattle.mpb_start_laws.proofs.Calls.{call_at, life_after}
 use Rattle.mpb_start_laws.proofs.PlansStay.{step_plans}
-use Rattle.mpb_start_laws.proofs.LifeSteps.{Goes, own, step_goes}
-use Rattle.mpb_start_laws.proofs.LivesGoOn.{warm_after, step_warm, IsWarmAt, NamesPage, warm_stays_at, IsLifeOf, life_stays_lawful, first_stays, is_ready, ready_stays, running_stays, early_op, late_op, early_readies, late_starts}
+use Rattle.mpb_start_laws.proofs.LifeSteps.{own, step_goes}
+use Rattle.mpb_start_laws.proofs.LivesGoOn.{warm_after, step_warm, IsWarmAt, NamesPage, warm_stays_at, IsLifeOf, life_stays_lawful, is_ready, ready_stays, running_stays, early_op, late_op, early_readies, late_starts}
 
 -- the op that a processor makes is the one at its position
 pub op_is_there : (s : BoardState) (id : ℕ) (f : Offer) (o : Op) (p : Processor) → next_op s (Cpu id) f ≡ Some o → processor_of id s.processors ≡ Some p → slice_get p.program p.position ≡ Some o

@@ -1,11 +1,9 @@
 -- No step leads past the end of a program.
-use Rattle.std.proofs.Common.{◌≡◌, ◌==◌, ℕ, zero, suc, ◌+◌, ◌<◌, ◌≤◌, Bool, true, false, cond, not, ◌&&◌, List, [], ◌∷◌, length, map, refl, sym, ap, ◌∙◌, arith, Option, Some, None, slice_get, is_some, nat_le, nat_lt, ◌⊎◌, inl, inr, subst, fold}
-use Rattle.std.specs.List.{AllByRecursion, Contains, list_all}
-use Rattle.std.proofs.lemmas.Bool.{eq-eqb, le-leb, leb-true, cases_lt}
+use Rattle.std.proofs.Common.{◌≡◌, ℕ, zero, suc, ◌+◌, ◌≤◌, Bool, true, false, cond, List, [], ◌∷◌, length, map, refl, sym, ap, arith, Option, Some, None, slice_get, subst, fold}
+use Rattle.std.specs.List.{AllByRecursion, Contains}
 use Rattle.mpb_spec.specs.declared.agent.Agent.{Agent}
 use Rattle.mpb_spec.specs.declared.agent.Agent.TheVariants.{Cpu, Io, Dev}
 use Rattle.mpb_spec.specs.declared.agent.Offer.{Offer}
-use Rattle.mpb_spec.specs.declared.agent.Offer.TheVariants as offer
 use Rattle.mpb_spec.specs.declared.agent.Op.{Op}
 use Rattle.mpb_spec.specs.declared.agent.Op.TheVariants as op
 use Rattle.mpb_spec.specs.declared.apic.Delivery.{Delivery}
@@ -13,26 +11,20 @@ use Rattle.mpb_spec.specs.declared.apic.Message.{Message}
 use Rattle.mpb_spec.specs.declared.config.DevWord.{DevWord}
 use Rattle.mpb_spec.specs.declared.entry.Entry.{Entry}
 use Rattle.mpb_spec.specs.Numbers.{IsAscending}
-use Rattle.mpb_spec.specs.LocalApic.{LocalApic, next_vector}
-use Rattle.mpb_spec.specs.IoApic.{next_due}
-use Rattle.mpb_spec.specs.State.{Processor, Place, Device, BoardState, runs, processor_of, change_at, op_at, device_op_at, boot_is_through, is_through, all_ended}
-use Rattle.mpb_spec.specs.Steps.{next_op, after, op_of_processor, op_of_device, op_of_place, unless_waiting, unless_early, send_of, all_left, effect_of_cpu, effect_of_dev, sent_message, deliver_kind, kind_of, due_at}
-use Rattle.mpb_spec.specs.May.{IsQuiescent}
+use Rattle.mpb_spec.specs.State.{Processor, Device, BoardState, processor_of, change_at, device_op_at}
+use Rattle.mpb_spec.specs.Steps.{next_op, after, effect_of_dev, sent_message, deliver_kind, kind_of, due_at}
 use Rattle.mpb_spec.specs.Plan.{Plan, CpuPlan, initial_state_of, first_processor, first_device}
 use Rattle.mpb_spec.specs.Configs.{IsConfig}
-use Rattle.mpb_spec.specs.Journal.{AreSteps, IsLegal, IsComplete, after_entry, final_state_of}
+use Rattle.mpb_spec.specs.Journal.{AreSteps, IsLegal, after_entry, final_state_of}
 use Rattle.mpb_spec.specs.Requests.{is_cpu}
 use Rattle.mpb_spec.proofs.May.{may_advance_dev}
-use Rattle.mpb_start_laws.specs.Rest.{IsDone, AwaitsVector, HasEnded, IsSwept, IsAtRest}
-use Rattle.mpb_start_laws.proofs.Lists.{member, index_of, read_here, none_past}
-use Rattle.mpb_start_laws.proofs.Processors.{same_found, plan_of, plans_of, found_in, found_member, found_here}
-use Rattle.std.proofs.lemmas.Option.{slice_get_within, slice_get_past}
+use Rattle.mpb_start_laws.proofs.Processors.{same_found, plan_of, found_in, found_member}
+use Rattle.std.proofs.lemmas.Option.{slice_get_within}
 use Rattle.mpb_start_laws.proofs.PlansStay.{plans_stay}
 use Rattle.mpb_start_laws.proofs.LifeSteps.{step_goes}
 use Rattle.mpb_start_laws.proofs.UnderWay.{op_is_there, is_own}
 use Rattle.mpb_start_laws.proofs.Told.{up_of}
-use Rattle.mpb_start_laws.proofs.Opening.{IsBootAt, boot_at, first_found}
-use Rattle.mpb_start_laws.proofs.Through.{boot_past, idle_at}
+use Rattle.mpb_start_laws.proofs.Opening.{first_found}
 
 -- no processor is past the end of its program
 stays-within : (d : ℕ) (s : BoardState) (xs : List Entry) (p : Processor) → processor_of d s.processors ≡ Some p → p.position ≤ length p.program → AreSteps s xs
@@ -113,4 +105,3 @@ processor_within c journal p is legal here =
     let q = stays-within p.id (initial_state_of c) journal (first_processor c.boot (plan_of p)) (first_found c (plan_of p) is.ascending in_plan) (omega arith) legal in
     let same : q.0 ≡ p = same_found q.0 p (processor_of p.id t.processors) q.1 found in
     (found, subst (λ (x : Processor). x.position ≤ length x.program) same q.2)
-

@@ -5,7 +5,5 @@
 mod rest;
 mod starts;
 
-pub use rest::{
-    boards_at_rest_are_quiet, complete_boots_are_at_rest, complete_boots_are_through,
-};
+pub use rest::{boards_at_rest_are_quiet, complete_boots_are_at_rest, complete_boots_are_through};
 pub use starts::{complete_boots_start_each_processor_once, journals_tell_each_start_once};
