@@ -14,3 +14,4 @@ pub mod BootStays
 pub mod Within
 pub mod Resting
 pub mod Quiet
+pub mod ExampleLemmas
