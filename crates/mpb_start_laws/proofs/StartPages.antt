@@ -25,7 +25,7 @@ use Rattle.mpb_spec.specs.State.{Processor, Place, BoardState, runs, processor_o
 use Rattle.mpb_spec.specs.Delivery.{is_target, answer, outcome_at, outcomes_at, unless_absent, outcome_of_accept}
 use Rattle.mpb_spec.specs.Steps.{due_at, kind_of, kind_outcomes, send_outcomes, ended_at, vector_at}
 use Rattle.mpb_spec.specs.Outcomes.{outcomes_of, outcomes_of_cpu, only, found, found_alive, what_taken, what_ended, what_effect, of_write, of_read, of_line}
-use Rattle.mpb_start_laws.specs.Starts.{started_page, start_pages}
+use Rattle.mpb_start_laws.specs.Starts.{started_page, pages_at}
 use Rattle.mpb_start_laws.proofs.Calls.{page_list, call_if, call_at, pages_after}
 
 -- the pages at one target
@@ -46,25 +46,25 @@ abbrev at_targets : Option ℕ → ℕ → ℕ → Delivery → List Processor �
 at_targets warm all dest m ps = map (outcome_at warm m) (filter (is_target all dest) ps)
 
 -- none at an id that no processor has
-none-above : (d : ℕ) (warm : Option ℕ) (all dest : ℕ) (m : Delivery) (ps : List Processor) → AllByRecursion (λ y. d < y) (map (λ p. p.id) ps) → start_pages d (at_targets warm all dest m ps) ≡ []
+none-above : (d : ℕ) (warm : Option ℕ) (all dest : ℕ) (m : Delivery) (ps : List Processor) → AllByRecursion (λ y. d < y) (map (λ p. p.id) ps) → pages_at d (at_targets warm all dest m ps) ≡ []
 none-above d warm all dest m [] above = refl
 none-above d warm all dest m (p ∷ ps) above = go (is_target all dest p) (none-above d warm all dest m ps above.1) where
   off : (p.id == d) ≡ false
   off = ne_eqb p.id d (λ same. omega (arith, same, above.0))
 
-  go : (b : Bool) → start_pages d (at_targets warm all dest m ps) ≡ [] → start_pages d (map (outcome_at warm m) (cond b (p ∷ filter (is_target all dest) ps) (filter (is_target all dest) ps))) ≡ []
+  go : (b : Bool) → pages_at d (at_targets warm all dest m ps) ≡ [] → pages_at d (map (outcome_at warm m) (cond b (p ∷ filter (is_target all dest) ps) (filter (is_target all dest) ps))) ≡ []
   go true h = rw off h
   go false h = h
 
 -- with distinct ids they are those of the one processor
 one-target : (d : ℕ) (warm : Option ℕ) (all dest : ℕ) (m : Delivery) (ps : List Processor) (q : Processor) → IsAscending (map (λ p. p.id) ps) → processor_of d ps ≡ Some q
-    → start_pages d (at_targets warm all dest m ps) ≡ cond (is_target all dest q) (pages_after warm q.version (Some m) q.life) []
+    → pages_at d (at_targets warm all dest m ps) ≡ cond (is_target all dest q) (pages_after warm q.version (Some m) q.life) []
 one-target d warm all dest m [] q up e = cc
 one-target d warm all dest m (p ∷ ps) q up e = go (p.id == d) refl e (one-target d warm all dest m ps q up.1) where
   Goal : Bool → Type 0
-  Goal t = start_pages d (map (outcome_at warm m) (cond t (p ∷ filter (is_target all dest) ps) (filter (is_target all dest) ps))) ≡ cond (is_target all dest q) (pages_after warm q.version (Some m) q.life) []
+  Goal t = pages_at d (map (outcome_at warm m) (cond t (p ∷ filter (is_target all dest) ps) (filter (is_target all dest) ps))) ≡ cond (is_target all dest q) (pages_after warm q.version (Some m) q.life) []
 
-  here : p ≡ q → (p.id == d) ≡ true → start_pages d (at_targets warm all dest m ps) ≡ [] → (t : Bool) → is_target all dest p ≡ t → Goal t
+  here : p ≡ q → (p.id == d) ≡ true → pages_at d (at_targets warm all dest m ps) ≡ [] → (t : Bool) → is_target all dest p ≡ t → Goal t
   here same t rest true s =
       let mine : is_target all dest q ≡ true = ap (is_target all dest) (sym same) ∙ s in
       rw mine (rw t (rw rest (subst (λ (x : Processor). page_list (started_page (answer warm m x)) ≡ pages_after warm q.version (Some m) q.life) (sym same) (answer-page warm m q))))
@@ -72,24 +72,24 @@ one-target d warm all dest m (p ∷ ps) q up e = go (p.id == d) refl e (one-targ
       let mine : is_target all dest q ≡ false = ap (is_target all dest) (sym same) ∙ s in
       rw mine rest
 
-  later : (p.id == d) ≡ false → start_pages d (at_targets warm all dest m ps) ≡ cond (is_target all dest q) (pages_after warm q.version (Some m) q.life) [] → (t : Bool) → Goal t
+  later : (p.id == d) ≡ false → pages_at d (at_targets warm all dest m ps) ≡ cond (is_target all dest q) (pages_after warm q.version (Some m) q.life) [] → (t : Bool) → Goal t
   later off rest true = rw off rest
   later off rest false = rest
 
   go : (b : Bool) → (p.id == d) ≡ b → cond b (Some p) (processor_of d ps) ≡ Some q
-      → (processor_of d ps ≡ Some q → start_pages d (at_targets warm all dest m ps) ≡ cond (is_target all dest q) (pages_after warm q.version (Some m) q.life) [])
+      → (processor_of d ps ≡ Some q → pages_at d (at_targets warm all dest m ps) ≡ cond (is_target all dest q) (pages_after warm q.version (Some m) q.life) [])
       → Goal (is_target all dest p)
   go true t e rest =
       let same : p ≡ q = cc in
       here same t (none-above d warm all dest m ps (subst (λ (i : ℕ). AllByRecursion (λ y. i < y) (map (λ (x : Processor). x.id) ps)) (eqb-true p.id d t) up.0)) (is_target all dest p) refl
   go false t e rest = later t (rest e) (is_target all dest p)
 
-unless-none : (d dest : ℕ) (os : List Outcome) → start_pages d (unless_absent dest os) ≡ start_pages d os
+unless-none : (d dest : ℕ) (os : List Outcome) → pages_at d (unless_absent dest os) ≡ pages_at d os
 unless-none d dest [] = elim (dest == d) as (λ b. cons_option (cond {A = Option ℕ} b None None) [] ≡ []) [ true ↦ refl | false ↦ refl ]
 unless-none d dest (o ∷ os) = refl
 
 message-pages : (d : ℕ) (warm : Option ℕ) (all dest : ℕ) (m : Delivery) (ps : List Processor) (q : Processor) → IsAscending (map (λ p. p.id) ps) → processor_of d ps ≡ Some q
-    → start_pages d (outcomes_at warm all dest m ps) ≡ cond (is_target all dest q) (pages_after warm q.version (Some m) q.life) []
+    → pages_at d (outcomes_at warm all dest m ps) ≡ cond (is_target all dest q) (pages_after warm q.version (Some m) q.life) []
 message-pages d warm all dest m ps q up e = unless-none d dest (at_targets warm all dest m ps) ∙ one-target d warm all dest m ps q up e
 
 -- a message that is no INIT and no STARTUP
@@ -106,11 +106,11 @@ plain-pages warm version sends.Init l t plain = absurd plain
 plain-pages warm version (sends.Startup page) l t plain = absurd plain
 
 plain-message : (d : ℕ) (warm : Option ℕ) (all dest : ℕ) (m : Delivery) (ps : List Processor) (q : Processor) → IsAscending (map (λ p. p.id) ps) → processor_of d ps ≡ Some q → IsPlain m
-    → start_pages d (outcomes_at warm all dest m ps) ≡ []
+    → pages_at d (outcomes_at warm all dest m ps) ≡ []
 plain-message d warm all dest m ps q up e plain = message-pages d warm all dest m ps q up e ∙ plain-pages warm q.version m q.life (is_target all dest q) plain
 
 -- one outcome that is no start
-one-none : (d at : ℕ) (w : What) → started_page w ≡ None → start_pages d (record { at = at; what = w } ∷ []) ≡ []
+one-none : (d at : ℕ) (w : What) → started_page w ≡ None → pages_at d (record { at = at; what = w } ∷ []) ≡ []
 one-none d at w none = rw none (elim (at == d) as (λ b. cons_option (cond {A = Option ℕ} b None None) [] ≡ []) [ true ↦ refl | false ↦ refl ])
 
 found-none : (r : Option Processor) → started_page (found r) ≡ None
@@ -153,7 +153,7 @@ collect-none pins (Some p) = refl
 
 -- the pages of what an op sends to the processor
 abbrev pub PagesAre : ℕ → Agent → Op → BoardState → Processor → Type 0
-PagesAre d g o s q = start_pages d (outcomes_of g o s) ≡ pages_after s.warm q.version (call_at d g o) q.life
+PagesAre d g o s q = pages_at d (outcomes_of g o s) ≡ pages_after s.warm q.version (call_at d g o) q.life
 
 called : (warm : Option ℕ) (version : ℕ) (m : Delivery) (l : Life) (b : Bool) → cond b (pages_after warm version (Some m) l) [] ≡ pages_after warm version (call_if b m) l
 called warm version m l true = refl
@@ -181,7 +181,7 @@ cpu-pages d id (op.IoWin a v) s q up e is = one-none d 0 (of_write v (slice_get 
 cpu-pages d id (op.IoRead a) s q up e is = one-none d 0 (of_read (slice_get s.places a)) (read-none (slice_get s.places a))
 cpu-pages d id o s q up e is = one-none d 0 what.Done refl
 
-kind-pages : (d : ℕ) (m : Message) (k : Option Delivery) (s : BoardState) (q : Processor) → kind_of m ≡ k → IsAscending (map (λ p. p.id) s.processors) → processor_of d s.processors ≡ Some q → start_pages d (kind_outcomes m.dest k s) ≡ []
+kind-pages : (d : ℕ) (m : Message) (k : Option Delivery) (s : BoardState) (q : Processor) → kind_of m ≡ k → IsAscending (map (λ p. p.id) s.processors) → processor_of d s.processors ≡ Some q → pages_at d (kind_outcomes m.dest k s) ≡ []
 kind-pages d m None s q is up e = one-none d 0 what.Unheard refl
 kind-pages d m (Some k) s q is up e = plain-message d s.warm 15 m.dest k s.processors q up e (plain m.logical (m.mode == 0) (m.mode == 2) (m.mode == 4) (m.mode == 7) is) where
   plain : (l a b c f : Bool) → cond {A = Option Delivery} l None (cond a (Some (sends.Fixed m.vector m.level)) (cond b (Some sends.Pass) (cond c (Some sends.Nmi) (cond f (Some sends.Pass) None)))) ≡ Some k → IsPlain k
@@ -192,7 +192,7 @@ kind-pages d m (Some k) s q is up e = plain-message d s.warm 15 m.dest k s.proce
   plain false false false false true h = let same : sends.Pass ≡ k = cc in subst IsPlain same tt
   plain false false false false false h = cc
 
-send-pages : (d : ℕ) (m : Option Message) (s : BoardState) (q : Processor) → IsAscending (map (λ p. p.id) s.processors) → processor_of d s.processors ≡ Some q → start_pages d (send_outcomes m s) ≡ []
+send-pages : (d : ℕ) (m : Option Message) (s : BoardState) (q : Processor) → IsAscending (map (λ p. p.id) s.processors) → processor_of d s.processors ≡ Some q → pages_at d (send_outcomes m s) ≡ []
 send-pages d None s q up e = refl
 send-pages d (Some m) s q up e = kind-pages d m (kind_of m) s q refl up e
 

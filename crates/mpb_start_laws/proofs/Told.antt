@@ -10,7 +10,7 @@ use Rattle.mpb_spec.specs.Plan.{Plan, CpuPlan, initial_state_of, first_processor
 use Rattle.mpb_spec.specs.Configs.{IsConfig}
 use Rattle.mpb_start_laws.proofs.Opening.{first_found}
 use Rattle.mpb_spec.specs.Journal.{AreSteps, IsStep, IsLegal, after_entry, final_state_of}
-use Rattle.mpb_start_laws.specs.Starts.{start_pages, starts_at}
+use Rattle.mpb_start_laws.specs.Starts.{pages_at, starts_at}
 use Rattle.mpb_start_laws.proofs.Processors.{same_found, plan_of, plans_of, found_id, found_in, found_member}
 use Rattle.mpb_start_laws.specs.Starts.{life_pages}
 use Rattle.mpb_start_laws.proofs.Calls.{told_after, call_at, life_after}
@@ -37,10 +37,10 @@ up_of ps up = subst IsAscending (ids-of ps) up
 
 -- one entry
 entry-told : (d : ℕ) (s : BoardState) (x : Entry) (p : Processor) → IsAscending (map (λ p. p.id) s.processors) → processor_of d s.processors ≡ Some p → IsStep s x
-    → life_pages (life_after s.warm p.version (call_at d x.agent x.op) p.life) ≡ life_pages p.life ++ start_pages d x.outcomes.items
+    → life_pages (life_after s.warm p.version (call_at d x.agent x.op) p.life) ≡ life_pages p.life ++ pages_at d x.outcomes.items
 entry-told d s x p up e step =
     told_after s.warm p.version (call_at d x.agent x.op) p.life
-    ∙ ap (λ (l : List ℕ). life_pages p.life ++ l) (sym (ap (start_pages d) step.outcomes ∙ step_pages d x.agent x.op s p up e (found_id d s.processors p e)))
+    ∙ ap (λ (l : List ℕ). life_pages p.life ++ l) (sym (ap (pages_at d) step.outcomes ∙ step_pages d x.agent x.op s p up e (found_id d s.processors p e)))
 
 -- a run
 pub run_told : (d : ℕ) (s : BoardState) (xs : List Entry) (p : Processor) → IsAscending (map (λ p. p.id) s.processors) → processor_of d s.processors ≡ Some p → AreSteps s xs
@@ -50,8 +50,8 @@ run_told d s (x ∷ xs) p up e steps =
     let goes = step_goes s d x.agent x.op p e in
     let still : IsAscending (map (λ p. p.id) (after_entry s x).processors) = subst IsAscending (sym (ids-stay (after_entry s x).processors s.processors (step_plans x.agent x.op s))) up in
     let rest = run_told d (after_entry s x) xs goes.now still goes.found steps.1 in
-    let one : life_pages goes.now.life ≡ life_pages p.life ++ start_pages d x.outcomes.items = ap life_pages goes.life ∙ entry-told d s x p up e steps.0 in
-    (rest.0, rest.1, rest.2 ∙ ap (λ (l : List ℕ). l ++ starts_at d xs) one ∙ append_assoc (life_pages p.life) (start_pages d x.outcomes.items) (starts_at d xs))
+    let one : life_pages goes.now.life ≡ life_pages p.life ++ pages_at d x.outcomes.items = ap life_pages goes.life ∙ entry-told d s x p up e steps.0 in
+    (rest.0, rest.1, rest.2 ∙ ap (λ (l : List ℕ). l ++ starts_at d xs) one ∙ append_assoc (life_pages p.life) (pages_at d x.outcomes.items) (starts_at d xs))
 
 -- in every legal journal of a config
 pub told : (c : Plan) (journal : List Entry) → IsConfig c → IsLegal c journal → (p : Processor) → Contains (final_state_of c journal).processors p → starts_at p.id journal ≡ life_pages p.life

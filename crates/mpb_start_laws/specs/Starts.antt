@@ -18,16 +18,16 @@ started_page (what.Started page) = Some page
 started_page w = None
 
 -- the page of an outcome Started at the processor
-abbrev pub start_page : ℕ → Outcome → Option ℕ
-start_page id o = if o.at == id then started_page o.what else None
+abbrev pub page_at : ℕ → Outcome → Option ℕ
+page_at id o = if o.at == id then started_page o.what else None
 
 -- the pages of these outcomes, in order
-abbrev pub start_pages : ℕ → List Outcome → List ℕ
-start_pages id os = filter_map (start_page id) os
+abbrev pub pages_at : ℕ → List Outcome → List ℕ
+pages_at id os = filter_map (page_at id) os
 
 -- the pages of all Started outcomes at the processor in the journal, in order
 abbrev pub starts_at : ℕ → List Entry → List ℕ
-starts_at id journal = flat_map (λ x. start_pages id x.outcomes.items) journal
+starts_at id journal = flat_map (λ x. pages_at id x.outcomes.items) journal
 
 -- the page at which a processor was started, where it was
 abbrev pub life_pages : Life → List ℕ
