@@ -1,0 +1,6 @@
+//! Runs of a board to its end (this project's own): the round robin on one thread.
+#![tactic(auto)]
+
+mod agents;
+mod lists;
+mod run;
