@@ -1,2 +1,4 @@
 pub mod Examples
 pub mod Left
+pub mod Acts
+pub mod Collects
