@@ -2,3 +2,4 @@ pub mod Examples
 pub mod Left
 pub mod Acts
 pub mod Collects
+pub mod Turns
