@@ -3,3 +3,4 @@ pub mod Left
 pub mod Acts
 pub mod Collects
 pub mod Turns
+pub mod Stuck
