@@ -20,7 +20,7 @@ use Rattle.mpb_latch.specs.PlainLatch.{pins_at}
 use Rattle.mpb_run_laws.specs.Account.{collected_count}
 use Rattle.mpb_run_laws.specs.RoundRobin.{Run, state_in, acts_of}
 use Rattle.mpb_run_laws.specs.Rest.{IsRun, IsDeviceRun}
-use Rattle.mpb_run_laws.proofs.Acts.{sums-le, hits-le-planned}
+use Rattle.mpb_run_laws.proofs.DeviceActs.{sums-le, hits-le-planned}
 use Rattle.mpb_run_laws.proofs.Left.{is_left}
 
 -- ---- what is at a place

@@ -1,6 +1,7 @@
 pub mod Examples
 pub mod Left
-pub mod Acts
+pub mod DeviceActs
 pub mod Collects
 pub mod Turns
 pub mod Stuck
+pub mod Progress

@@ -19,7 +19,7 @@ use Rattle.mpb_run_laws.specs.declared.act.Act.{Act}
 use Rattle.mpb_run_laws.specs.declared.act.Act.TheVariants as act
 use Rattle.mpb_run_laws.specs.RoundRobin.{Run, state_in, acts_of, next_act, agents_of}
 use Rattle.mpb_run_laws.specs.Rest.{IsRun, IsDeviceRun, is_over}
-use Rattle.mpb_run_laws.proofs.Acts.{next_op_is, done_is_over}
+use Rattle.mpb_run_laws.proofs.DeviceActs.{next_op_is, done_is_over}
 use Rattle.mpb_run_laws.proofs.Collects.{some_at}
 use Rattle.mpb_run_laws.proofs.Turns.{IsStuck}
 

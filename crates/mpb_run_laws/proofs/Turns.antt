@@ -18,7 +18,7 @@ use Rattle.mpb_run_laws.specs.declared.act.Act.{Act}
 use Rattle.mpb_run_laws.specs.declared.act.Act.TheVariants as act
 use Rattle.mpb_run_laws.specs.RoundRobin.{Run, state_in, entry_of, with_op, with_op_of, with_step, with_taken, with_collected, send_or_sweep, io_turn, acts_of, next_act, with_made, with_pulse, with_end, act_turn, turn}
 use Rattle.mpb_run_laws.specs.Rest.{op_of_act, IsRun, IsAgentOf, done_in}
-use Rattle.mpb_run_laws.proofs.Acts.{next_op_is}
+use Rattle.mpb_run_laws.proofs.DeviceActs.{next_op_is}
 use Rattle.mpb_run_laws.proofs.Collects.{device_at, collect_is}
 
 -- the agent can do nothing: a device has no act left, or may not begin; an I/O APIC has nothing to send, and nothing to sweep
