@@ -1,4 +1,10 @@
 pub mod Examples
+pub mod Places
+pub mod Frames
+pub mod Acts
+pub mod StepsKeep
+pub mod DevicesKeep
+pub mod TurnsKeep
 pub mod Left
 pub mod DeviceActs
 pub mod Collects
