@@ -11,3 +11,6 @@ pub mod Collects
 pub mod Turns
 pub mod Stuck
 pub mod Progress
+pub mod Rounds
+pub mod Ends
+pub mod OneEnd

@@ -66,7 +66,7 @@ all_stuck r all =
 
 -- ---- devices
 
-none_beyond : {X : Type 0} (n : ℕ) (xs : List X) → slice_get xs n ≡ None → length xs ≤ n
+pub none_beyond : {X : Type 0} (n : ℕ) (xs : List X) → slice_get xs n ≡ None → length xs ≤ n
 none_beyond n xs e = elim (cases_lt n (length xs)) [ inl lt ↦ (let x = some_at n xs lt in let same : None ≡ Some x.0 = sym e ∙ x.1 in cc) | inr le ↦ le ]
 
 -- a device that is stuck is at its end, once the boot program is through
@@ -80,7 +80,7 @@ over-at r d v is at through (inr early) =
     let off : None ≡ Some op.Begin = sym early.1 ∙ begin in
     cc
 
-all_from : {X : Type 0} (f : X → Bool) (xs : List X) → ((n : ℕ) (x : X) → slice_get xs n ≡ Some x → f x ≡ true) → list_all f xs ≡ true
+pub all_from : {X : Type 0} (f : X → Bool) (xs : List X) → ((n : ℕ) (x : X) → slice_get xs n ≡ Some x → f x ≡ true) → list_all f xs ≡ true
 all_from f [] each = refl
 all_from f (x ∷ xs) each = and_from (f x) (list_all f xs) (each 0 x refl) (all_from f xs (λ n y at. each (suc n) y at))
 
@@ -103,7 +103,7 @@ all_over r is stuck through = all_from is_over (state_in r).devices (λ d v at.
 -- ---- an I/O APIC
 
 -- nothing to sweep though all devices are at their ends: it has swept, and can collect nothing
-swept : (t v : Bool) (p : Place) → v ≡ true → op_of_place t v offer.Sweep (Some p) ≡ None → p.swept ≡ true
+pub swept : (t v : Bool) (p : Place) → v ≡ true → op_of_place t v offer.Sweep (Some p) ≡ None → p.swept ≡ true
 swept t v p over none = go p.swept v over none where
   go : (w v : Bool) → v ≡ true → cond (not w && v) (Some op.Sweep) None ≡ None → w ≡ true
   go true v over none = refl
