@@ -14,3 +14,4 @@ pub mod Progress
 pub mod Rounds
 pub mod Ends
 pub mod OneEnd
+pub mod AtTheEnd

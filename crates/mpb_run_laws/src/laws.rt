@@ -1,17 +1,20 @@
 //! Laws of the round robin.
 
-ghost use Rattle.std.specs.Prelude.{◌≡◌, ◌≢◌, ◌≤◌, ◌<◌, ◌^◌, ◌+◌, ℕ, [], Some, length, slice_index, slice_index_or};
+ghost use Rattle.std.specs.Prelude.{◌≡◌, ◌≢◌, ◌≤◌, ◌<◌, ◌^◌, ◌+◌, ℕ, List, [], Some, length, slice_index, slice_index_or};
 ghost use Rattle.std.specs.Int.{bit_at};
 ghost use Rattle.mpb_spec.specs.declared.agent.Agent.{Agent as AnAgent};
 ghost use Rattle.mpb_spec.specs.declared.agent.Agent.TheVariants.{Io};
 ghost use Rattle.mpb_spec.specs.declared.agent.Offer.TheVariants.{Collect};
+ghost use Rattle.mpb_spec.specs.declared.entry.Entry.{Entry as AnEntry};
 ghost use Rattle.mpb_spec.specs.Configs.{IsConfig};
 ghost use Rattle.mpb_spec.specs.May.{IsQuiescent, MayStep};
 ghost use Rattle.mpb_spec.specs.Journal.{IsComplete};
 ghost use Rattle.mpb_spec.specs.Plan.{Plan, plan_size};
 ghost use Rattle.mpb_spec.specs.Room.{room};
+ghost use Rattle.mpb_latch.specs.declared.pulse.Pulse.{Pulse};
+ghost use Rattle.mpb_latch.specs.declared.pulse.Hit.{Hit};
 ghost use Rattle.mpb_latch.specs.PlainLatch.{pins_at};
-ghost use Rattle.mpb_run_laws.specs.RoundRobin.{Run, turn, round, state_in, first_run, IsRoundRobinEnd};
+ghost use Rattle.mpb_run_laws.specs.RoundRobin.{Run, turn, round, state_in, first_run, IsRoundRobinEnd, IsRoundRobinOf};
 ghost use Rattle.mpb_run_laws.specs.Rest.{IsRun, IsAgentOf, done_in};
 ghost use Rattle.mpb_run_laws.specs.Account.{AccountsForPulses, collected_count};
 
@@ -46,4 +49,10 @@ pub fn quiet_runs_are_complete()
 pub fn round_robins_have_one_end()
     ensures some { (c : Plan) → IsConfig c → plan_size c < 2 ^ 32 → (r : Run) × IsRoundRobinEnd c r }
     ensures one { (c : Plan) (r s : Run) → IsRoundRobinEnd c r → IsRoundRobinEnd c s → r ≡ s }
+{}
+
+/// The journal of a round robin is complete, and its logs account for all pulses.
+pub fn round_robins_are_complete()
+    ensures complete { (c : Plan) (journal : List AnEntry) (logs : List (List (Pulse × Hit))) → IsConfig c → plan_size c < 2 ^ 32 → IsRoundRobinOf c journal logs → IsComplete c journal }
+    ensures accounts { (c : Plan) (journal : List AnEntry) (logs : List (List (Pulse × Hit))) → IsConfig c → plan_size c < 2 ^ 32 → IsRoundRobinOf c journal logs → AccountsForPulses c journal logs }
 {}
