@@ -20,23 +20,19 @@ use Rattle.mpb_latch.specs.PlainLatch.{pins_at}
 use Rattle.mpb_run_laws.specs.Account.{collected_count}
 use Rattle.mpb_run_laws.specs.RoundRobin.{Run, state_in, acts_of}
 use Rattle.mpb_run_laws.specs.Rest.{IsRun, IsDeviceRun}
+use Rattle.mpb_run_laws.proofs.Places.{is-there}
 use Rattle.mpb_run_laws.proofs.DeviceActs.{sums-le, hits-le-planned}
 use Rattle.mpb_run_laws.proofs.Left.{is_left}
 
 -- ---- what is at a place
 
-pub some_at : {X : Type 0} (n : ℕ) (xs : List X) → n < length xs → (x : X) × (slice_get xs n ≡ Some x)
-some_at n [] lt = absurd (omega (arith, lt))
-some_at zero (x ∷ xs) lt = (x, refl)
-some_at (suc n) (x ∷ xs) lt = some_at n xs (omega (arith, lt))
-
 -- the I/O APIC at a place
 pub place_at : (r : Run) (a : ℕ) → a < length r.plan.ios → (p : Place) × (slice_get (state_in r).places a ≡ Some p)
-place_at r a lt = some_at a (state_in r).places (omega (arith, lt, places_stay r.plan r.journal))
+place_at r a lt = is-there a (state_in r).places (omega (arith, lt, places_stay r.plan r.journal))
 
 -- a device, and what it has done
 pub device_at : (r : Run) (d : ℕ) → d < length r.plan.devices → (v : Device) × (slice_get (state_in r).devices d ≡ Some v)
-device_at r d lt = some_at d (state_in r).devices (omega (arith, lt, devices_stay r.plan r.journal))
+device_at r d lt = is-there d (state_in r).devices (omega (arith, lt, devices_stay r.plan r.journal))
 
 -- ---- no more New hits than pulses are planned
 

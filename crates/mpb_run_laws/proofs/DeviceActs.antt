@@ -1,7 +1,8 @@
 -- What a device does: its ops are its program, its pulses are those of its words, and it ends with an op.
 use Rattle.std.proofs.Common.{◌≡◌, ◌≢◌, ◌==◌, ℕ, zero, suc, ◌+◌, ◌^◌, ◌<◌, ◌≤◌, Bool, true, false, ◌&&◌, cond, List, [], ◌∷◌, ◌++◌, length, map, get_or, take, refl, sym, ap, ap₂, ◌∙◌, arith, Option, Some, None, slice_get, sum_by, count_by, inl, inr}
 use Rattle.std.specs.List.{filter_map}
-use Rattle.std.proofs.lemmas.Bool.{eq-eqb, ne_eqb, cases_eq}
+use Rattle.std.proofs.lemmas.Bool.{eq-eqb, ne_eqb, cases_eq, cases_lt}
+use Rattle.std.proofs.lemmas.List.{length-take, take_all}
 use Rattle.std.proofs.lemmas.List.Sums.{sum_by-cons, sum_by-append, sum_by-take-le}
 use Rattle.mpb_spec.specs.declared.agent.Op.{Op}
 use Rattle.mpb_spec.specs.declared.agent.Op.TheVariants as op
@@ -19,6 +20,8 @@ use Rattle.mpb_run_laws.specs.declared.act.Act.TheVariants as act
 use Rattle.mpb_run_laws.specs.Account.{pulse_of, pulses_in}
 use Rattle.mpb_run_laws.specs.RoundRobin.{acts_of}
 use Rattle.mpb_run_laws.specs.Rest.{op_of_act, pulse_of_act, IsDeviceRun}
+use Rattle.mpb_run_laws.proofs.Places.{is-there}
+use Rattle.mpb_run_laws.proofs.Acts.{op-at, op-left, pulses-of_acts}
 
 -- sums of two lists, member by member
 pub sums-le : {X Y : Type 0} (f : X → ℕ) (g : Y → ℕ) (xs : List X) (ys : List Y) (d : X) (e : Y) → length xs ≡ length ys → ((k : ℕ) → k < length xs → f (get_or xs k d) ≤ g (get_or ys k e)) → sum_by f xs ≤ sum_by g ys
@@ -72,16 +75,6 @@ hits-le-planned a pin n ws log v is =
     let same : count_by (is_on a pin) (pulses_of log) ≡ count_by (is_on a pin) (filter_map pulse_of_act (take n (acts_of ws))) = ap (λ (l : List Pulse). count_by (is_on a pin) l) is.pulses in
     omega (arith, news-le-hits a pin log, log-hits a pin log, same, acts-hits a pin (take n (acts_of ws)), sum_by-take-le (act_hits a pin) (acts_of ws) n, program-hits a pin ws)
 
--- all pulses of all acts are those of the words
-word-pulses : (ws : List DevWord) → filter_map pulse_of_act (map act.Word ws ++ act.End ∷ []) ≡ pulses_in ws
-word-pulses [] = refl
-word-pulses (word.Pulse a pin ∷ ws) = ap (λ (l : List Pulse). record { io = a; pin = pin } ∷ l) (word-pulses ws)
-word-pulses (word.High a pin ∷ ws) = word-pulses ws
-word-pulses (word.Low a pin ∷ ws) = word-pulses ws
-
-pub all_pulses : (ws : List DevWord) → filter_map pulse_of_act (acts_of ws) ≡ pulses_in ws
-all_pulses ws = word-pulses ws
-
 -- ---- lengths
 
 filtered-le : {X Y : Type 0} (f : X → Option Y) (xs : List X) → length (filter_map f xs) ≤ length xs
@@ -90,11 +83,6 @@ filtered-le {X = X} {Y = Y} f (x ∷ xs) = go (f x) (filtered-le f xs) where
   go : (o : Option Y) → length (filter_map f xs) ≤ length xs → length (Rattle.std.specs.List.cons_option o (filter_map f xs)) ≤ suc (length xs)
   go None h = omega (arith, h)
   go (Some y) h = omega (arith, h)
-
-take-le : {X : Type 0} (n : ℕ) (xs : List X) → length (take n xs) ≤ length xs
-take-le zero xs = omega arith
-take-le (suc n) [] = omega arith
-take-le (suc n) (x ∷ xs) = omega (arith, take-le n xs)
 
 words-long : (ws : List DevWord) → length (map act.Word ws ++ act.End ∷ []) ≡ length ws + 1
 words-long [] = refl
@@ -111,54 +99,27 @@ log-long (x ∷ xs) = ap suc (log-long xs)
 pub log-le : (n : ℕ) (ws : List DevWord) (log : List (Pulse × Hit)) (v : Device) → IsDeviceRun (acts_of ws) n log v → length log ≤ length ws + 2
 log-le n ws log v is =
     let same : length (pulses_of log) ≡ length (filter_map pulse_of_act (take n (acts_of ws))) = ap (λ (l : List Pulse). length l) is.pulses in
-    omega (arith, log-long log, same, filtered-le pulse_of_act (take n (acts_of ws)), take-le n (acts_of ws), acts-long ws)
+    omega (arith, log-long log, same, filtered-le pulse_of_act (take n (acts_of ws)), length-take n (acts_of ws), acts-long ws)
 
 -- ---- ops
 
 -- the next act, where it is an op, is the next op
-next-is : {X Y : Type 0} (f : X → Option Y) (n : ℕ) (xs : List X) (x : X) (y : Y) → slice_get xs n ≡ Some x → f x ≡ Some y → slice_get (filter_map f xs) (length (filter_map f (take n xs))) ≡ Some y
-next-is f n [] x y at is = cc
-next-is {X = X} {Y = Y} f zero (z ∷ xs) x y at is = let same : z ≡ x = cc in let e : f z ≡ Some y = ap f same ∙ is in rw e refl
-next-is {X = X} {Y = Y} f (suc n) (z ∷ xs) x y at is = go (f z) (next-is f n xs x y at is) where
-  go : (o : Option Y) → slice_get (filter_map f xs) (length (filter_map f (take n xs))) ≡ Some y → slice_get (Rattle.std.specs.List.cons_option o (filter_map f xs)) (length (Rattle.std.specs.List.cons_option o (filter_map f (take n xs)))) ≡ Some y
-  go None h = h
-  go (Some w) h = h
-
 pub next_op_is : (acts : List Act) (n : ℕ) (log : List (Pulse × Hit)) (v : Device) (x : Act) (o : Op) → IsDeviceRun acts n log v → slice_get acts n ≡ Some x → op_of_act x ≡ Some o → slice_get v.program v.position ≡ Some o
-next_op_is acts n log v x o is at op = rw (is.program, is.position) (next-is op_of_act n acts x o at op)
+next_op_is acts n log v x o is at op = rw (is.program, is.position) (op-at acts n x o at op)
 
 -- a device that has done all its acts is at its end
-all-taken : {X : Type 0} (n : ℕ) (xs : List X) → length xs ≤ n → take n xs ≡ xs
-all-taken zero [] le = refl
-all-taken (suc n) [] le = refl
-all-taken zero (x ∷ xs) le = absurd (omega (arith, le))
-all-taken {X = X} (suc n) (x ∷ xs) le = ap (λ (l : List X). x ∷ l) (all-taken n xs (omega (arith, le)))
-
 pub done_is_over : (acts : List Act) (n : ℕ) (log : List (Pulse × Hit)) (v : Device) → IsDeviceRun acts n log v → length acts ≤ n → v.position ≡ length v.program
-done_is_over acts n log v is le = rw (is.program, is.position, all-taken n acts le) refl
+done_is_over acts n log v is le = rw (is.program, is.position, take_all n acts le) refl
 
--- and one at its end has done them all, since the last is an op
-last-op : {X Y : Type 0} (f : X → Option Y) (n : ℕ) (xs : List X) (x : X) (y : Y) → f x ≡ Some y → n ≤ length xs → length (filter_map f (take n (xs ++ x ∷ []))) < length (filter_map f (xs ++ x ∷ []))
-last-op f zero [] x y is le = rw is (omega arith)
-last-op f (suc n) [] x y is le = absurd (omega (arith, le))
-last-op {X = X} {Y = Y} f zero (z ∷ xs) x y is le = go (f z) (last-op f zero xs x y is (omega arith)) where
-  go : (o : Option Y) → 0 < length (filter_map f (xs ++ x ∷ [])) → 0 < length (Rattle.std.specs.List.cons_option o (filter_map f (xs ++ x ∷ [])))
-  go None h = h
-  go (Some w) h = omega arith
-last-op {X = X} {Y = Y} f (suc n) (z ∷ xs) x y is le = go (f z) (last-op f n xs x y is (omega (arith, le))) where
-  go : (o : Option Y) → length (filter_map f (take n (xs ++ x ∷ []))) < length (filter_map f (xs ++ x ∷ [])) → length (Rattle.std.specs.List.cons_option o (filter_map f (take n (xs ++ x ∷ [])))) < length (Rattle.std.specs.List.cons_option o (filter_map f (xs ++ x ∷ [])))
-  go None h = h
-  go (Some w) h = omega (arith, h)
-
+-- and one at its end has done them all, since where an act is left, an op is left
 pub over_is_done : (ws : List DevWord) (n : ℕ) (log : List (Pulse × Hit)) (v : Device) → IsDeviceRun (acts_of ws) n log v → length v.program ≤ v.position → n ≡ length (acts_of ws)
-over_is_done ws n log v is over =
-    let long : length (acts_of ws) ≡ length (act.Begin ∷ map act.Word ws) + 1 = simp (Rattle.std.proofs.lemmas.List.length-append) (omega arith) in
-    let program = ap (λ (l : List Op). length l) is.program in
-    elim (Rattle.std.proofs.lemmas.Bool.cases_lt n (length (acts_of ws))) [
-      | inl lt ↦ absurd (omega (arith, last-op op_of_act n (act.Begin ∷ map act.Word ws) act.End op.End refl (omega (arith, lt, long)), program, is.position, over))
-      | inr le ↦ omega (arith, le, is.within)
-    ]
+over_is_done ws n log v is over = elim (cases_lt n (length (acts_of ws))) [
+    | inl lt ↦
+        let x = is-there n (acts_of ws) lt in
+        absurd (omega (arith, op-left ws n x.0 x.1, ap (λ (l : List Op). length l) is.program, is.position, over))
+    | inr le ↦ omega (arith, le, is.within)
+  ]
 
 -- then its log has all pulses of its words
 pub done_has_all : (ws : List DevWord) (n : ℕ) (log : List (Pulse × Hit)) (v : Device) → IsDeviceRun (acts_of ws) n log v → n ≡ length (acts_of ws) → pulses_of log ≡ pulses_in ws
-done_has_all ws n log v is all = is.pulses ∙ ap (λ (l : List Act). filter_map pulse_of_act l) (all-taken n (acts_of ws) (omega (arith, all))) ∙ all_pulses ws
+done_has_all ws n log v is all = is.pulses ∙ ap (λ (l : List Act). filter_map pulse_of_act l) (take_all n (acts_of ws) (omega (arith, all))) ∙ pulses-of_acts ws

@@ -27,7 +27,7 @@ use Rattle.mpb_run_laws.specs.Account.{AccountsForPulses, pulses_in, collected_c
 use Rattle.mpb_run_laws.specs.RoundRobin.{Run, state_in, acts_of}
 use Rattle.mpb_run_laws.specs.Rest.{IsRun, is_over}
 use Rattle.mpb_run_laws.proofs.DeviceActs.{over_is_done, done_has_all}
-use Rattle.mpb_run_laws.proofs.Collects.{some_at, place_at, device_at}
+use Rattle.mpb_run_laws.proofs.Collects.{place_at, device_at}
 use Rattle.mpb_run_laws.proofs.Stuck.{all_from, none_beyond, swept}
 
 pub complete : (r : Run) → IsRun r → IsQuiescent (state_in r) → IsComplete r.plan r.journal

@@ -20,7 +20,7 @@ use Rattle.mpb_run_laws.specs.declared.act.Act.TheVariants as act
 use Rattle.mpb_run_laws.specs.RoundRobin.{Run, state_in, acts_of, next_act, agents_of}
 use Rattle.mpb_run_laws.specs.Rest.{IsRun, IsDeviceRun, is_over}
 use Rattle.mpb_run_laws.proofs.DeviceActs.{next_op_is, done_is_over}
-use Rattle.mpb_run_laws.proofs.Collects.{some_at}
+use Rattle.mpb_run_laws.proofs.Places.{is-there}
 use Rattle.mpb_run_laws.proofs.Turns.{IsStuck}
 
 -- ---- what holds of all agents holds of each
@@ -67,7 +67,7 @@ all_stuck r all =
 -- ---- devices
 
 pub none_beyond : {X : Type 0} (n : ℕ) (xs : List X) → slice_get xs n ≡ None → length xs ≤ n
-none_beyond n xs e = elim (cases_lt n (length xs)) [ inl lt ↦ (let x = some_at n xs lt in let same : None ≡ Some x.0 = sym e ∙ x.1 in cc) | inr le ↦ le ]
+none_beyond n xs e = elim (cases_lt n (length xs)) [ inl lt ↦ (let x = is-there n xs lt in let same : None ≡ Some x.0 = sym e ∙ x.1 in cc) | inr le ↦ le ]
 
 -- a device that is stuck is at its end, once the boot program is through
 over-at : (r : Run) (d : ℕ) (v : Device) → IsRun r → slice_get (state_in r).devices d ≡ Some v → boot_is_through (state_in r) ≡ true → IsStuck (Dev d) r → v.position ≡ length v.program

@@ -18,6 +18,7 @@ use Rattle.mpb_run_laws.specs.declared.act.Act.{Act}
 use Rattle.mpb_run_laws.specs.declared.act.Act.TheVariants as act
 use Rattle.mpb_run_laws.specs.RoundRobin.{Run, state_in, entry_of, with_op, with_op_of, with_step, with_taken, with_collected, send_or_sweep, io_turn, acts_of, next_act, with_made, with_pulse, with_end, act_turn, turn}
 use Rattle.mpb_run_laws.specs.Rest.{op_of_act, IsRun, IsAgentOf, done_in}
+use Rattle.mpb_run_laws.proofs.StepsKeep.{taken-none}
 use Rattle.mpb_run_laws.proofs.DeviceActs.{next_op_is}
 use Rattle.mpb_run_laws.proofs.Collects.{device_at, collect_is}
 
@@ -45,14 +46,6 @@ one-step g r (Some o) = inl (op-more g o r)
 
 -- ---- an I/O APIC
 
-taken-none : (xs : List ℕ) (n : ℕ) → get_or xs n 0 ≡ 0 → set xs n 0 ≡ xs
-taken-none [] n e = refl
-taken-none (x ∷ xs) zero e = ap (λ (y : ℕ). y ∷ xs) (sym e)
-taken-none (x ∷ xs) (suc n) e = ap (λ (l : List ℕ). x ∷ l) (taken-none xs n e)
-
-pub nothing_taken : (a : ℕ) (r : Run) → pins_at a r.latch ≡ 0 → with_taken a r ≡ r
-nothing_taken a r e = ap (λ (ps : List ℕ). record r { latch = record r.latch { pins = ps } }) (taken-none r.latch.pins a e)
-
 send-sweep : (g : Agent) (r : Run) (x y : Option Op) (b : Bool)
     → DoesMore r (cond (is_some x) (with_op_of g x r) (cond b (with_op_of g y r) r))
     ⊎ ((cond (is_some x) (with_op_of g x r) (cond b (with_op_of g y r) r) ≡ r) × (x ≡ None) × (b ≡ true → y ≡ None))
@@ -71,7 +64,7 @@ empty-turn r a =
 place-turn : (r : Run) (a : ℕ) → IsRun r → a < length r.plan.ios → DoesMore r (io_turn a r) ⊎ ((io_turn a r ≡ r) × IsStuck (Io a) r)
 place-turn r a is lt = elim (cases_eq (pins_at a r.latch) 0) [
       | inl none ↦
-          let here : io_turn a r ≡ send_or_sweep a r = ap (λ b. cond b (send_or_sweep a (with_taken a r)) (with_collected a (pins_at a r.latch) (with_taken a r))) (eq-eqb (pins_at a r.latch) 0 none) ∙ ap (send_or_sweep a) (nothing_taken a r none) in
+          let here : io_turn a r ≡ send_or_sweep a r = ap (λ b. cond b (send_or_sweep a (with_taken a r)) (with_collected a (pins_at a r.latch) (with_taken a r))) (eq-eqb (pins_at a r.latch) 0 none) ∙ ap (send_or_sweep a) (taken-none a r none) in
           subst (λ (s : Run). DoesMore r s ⊎ ((s ≡ r) × IsStuck (Io a) r)) (sym here) (empty-turn r a)
       | inr some ↦
           let here : io_turn a r ≡ with_collected a (pins_at a r.latch) (with_taken a r) = ap (λ b. cond b (send_or_sweep a (with_taken a r)) (with_collected a (pins_at a r.latch) (with_taken a r))) (ne_eqb (pins_at a r.latch) 0 some) in
