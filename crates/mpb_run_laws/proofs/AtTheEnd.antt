@@ -1,5 +1,5 @@
 -- The journal of a round robin is complete, and its logs account for all pulses.
-use Rattle.std.proofs.Common.{◌≡◌, ℕ, ◌^◌, ◌<◌, List, sym, ap, ◌∙◌, subst}
+use Rattle.std.proofs.Common.{◌^◌, ◌<◌, List, sym, subst}
 use Rattle.mpb_spec.specs.declared.entry.Entry.{Entry}
 use Rattle.mpb_spec.specs.Plan.{Plan, plan_size}
 use Rattle.mpb_spec.specs.Configs.{IsConfig}

@@ -1,12 +1,11 @@
 -- What is latched can be collected: its boot program is through, the I/O APIC has not swept, and each latched pin is left.
-use Rattle.std.proofs.Common.{◌≡◌, ◌≢◌, ◌==◌, ℕ, zero, suc, ◌+◌, ◌*◌, ◌/◌, ◌%◌, ◌^◌, ◌<◌, ◌≤◌, Bool, true, false, cond, ◌&&◌, List, [], ◌∷◌, length, get_or, refl, sym, ap, ◌∙◌, arith, pow-suc, Option, Some, None, slice_get, sum_by, nat_lt}
+use Rattle.std.proofs.Common.{◌≡◌, ◌≢◌, ◌==◌, ℕ, suc, ◌+◌, ◌/◌, ◌%◌, ◌^◌, ◌<◌, ◌≤◌, Bool, true, false, cond, ◌&&◌, List, [], ◌∷◌, length, get_or, refl, arith, pow-suc, Option, Some, slice_get, sum_by, nat_lt}
 use Rattle.std.specs.Int.{bit_at}
 use Rattle.std.proofs.lemmas.Bool.{and_from, lt-ltb, eqb-true, eq-eqb}
 use Rattle.std.proofs.lemmas.Nat.Bits.{bit_at_lowest, bit_at-suc}
 use Rattle.std.proofs.lemmas.List.Sums.{sum_by-cons, sum_by-le-sum_by}
 use Rattle.mpb_spec.specs.declared.agent.Agent.TheVariants.{Io}
 use Rattle.mpb_spec.specs.declared.agent.Offer.TheVariants as offer
-use Rattle.mpb_spec.specs.declared.agent.Op.{Op}
 use Rattle.mpb_spec.specs.declared.agent.Op.TheVariants as op
 use Rattle.mpb_spec.specs.declared.config.DevWord.{DevWord}
 use Rattle.mpb_spec.specs.declared.config.DevWord.TheVariants as word
@@ -17,9 +16,8 @@ use Rattle.mpb_spec.specs.May.{MayStep}
 use Rattle.mpb_laws.proofs.PartsStay.{places_stay, devices_stay}
 use Rattle.mpb_latch.specs.Pulses.{new_hits, new_hits_in}
 use Rattle.mpb_latch.specs.PlainLatch.{pins_at}
-use Rattle.mpb_run_laws.specs.Account.{collected_count}
-use Rattle.mpb_run_laws.specs.RoundRobin.{Run, state_in, acts_of}
-use Rattle.mpb_run_laws.specs.Rest.{IsRun, IsDeviceRun}
+use Rattle.mpb_run_laws.specs.RoundRobin.{Run, state_in}
+use Rattle.mpb_run_laws.specs.Rest.{IsRun}
 use Rattle.mpb_run_laws.proofs.Places.{is-there}
 use Rattle.mpb_run_laws.proofs.DeviceActs.{sums-le, hits-le-planned}
 use Rattle.mpb_run_laws.proofs.Left.{is_left}
@@ -40,8 +38,8 @@ pub new_le_planned : (r : Run) (a pin : ℕ) → IsRun r → new_hits a pin r.lo
 new_le_planned r a pin is =
     sums-le (new_hits_in a pin) (λ (ws : List DevWord). sum_by (pulses_on a pin) ws) r.logs r.plan.devices [] [] is.logs
     (λ d lt.
-        let v = device_at r d (omega (arith, lt, is.logs)) in
-        hits-le-planned a pin (get_or r.made d 0) (get_or r.plan.devices d []) (get_or r.logs d []) v.0 (is.each d v.0 v.1))
+    let v = device_at r d (omega (arith, lt, is.logs)) in
+    hits-le-planned a pin (get_or r.made d 0) (get_or r.plan.devices d []) (get_or r.logs d []) v.0 (is.each d v.0 v.1))
 
 one_or_none : (b : Bool) → cond {A = ℕ} b 1 0 ≤ 1
 one_or_none true = omega arith
@@ -89,8 +87,8 @@ collect_is r a is lt some =
     let left = is_left r.plan r.journal a p.0 is.legal p.1 in
     let below : pins_at a r.latch < 2 ^ length p.0.left = rw left.long (is.narrow a) in
     let all = left_from (pins_at a r.latch) p.0.left below (λ k le.
-        let low : k < 24 = omega (arith, le, left.long) in
-        omega (arith, left.left k low, is.balance a k lt low, new_le_planned r a k is)) in
+    let low : k < 24 = omega (arith, le, left.long) in
+    omega (arith, left.left k low, is.balance a k lt low, new_le_planned r a k is)) in
     collect-may (boot_is_through (state_in r)) (all_ended (state_in r)) (slice_get (state_in r).places a) p.0 (pins_at a r.latch) p.1 (is.latched a some) (unswept r a p.0 is p.1 some p.0.swept refl) (omega (arith, some)) (is.narrow a) all
 
 pub may_collect : (r : Run) (a : ℕ) → IsRun r → a < length r.plan.ios → pins_at a r.latch ≢ 0 → MayStep (state_in r) (Io a) (offer.Collect (pins_at a r.latch))

@@ -1,11 +1,10 @@
 -- What a device does: its ops are its program, its pulses are those of its words, and it ends with an op.
-use Rattle.std.proofs.Common.{◌≡◌, ◌≢◌, ◌==◌, ℕ, zero, suc, ◌+◌, ◌^◌, ◌<◌, ◌≤◌, Bool, true, false, ◌&&◌, cond, List, [], ◌∷◌, ◌++◌, length, map, get_or, take, refl, sym, ap, ap₂, ◌∙◌, arith, Option, Some, None, slice_get, sum_by, count_by, inl, inr}
+use Rattle.std.proofs.Common.{◌≡◌, ◌==◌, ℕ, suc, ◌+◌, ◌<◌, ◌≤◌, ◌&&◌, cond, List, [], ◌∷◌, ◌++◌, length, map, get_or, take, refl, sym, ap, ap₂, ◌∙◌, arith, Option, Some, None, slice_get, sum_by, count_by, inl, inr}
 use Rattle.std.specs.List.{filter_map}
 use Rattle.std.proofs.lemmas.Bool.{eq-eqb, ne_eqb, cases_eq, cases_lt}
 use Rattle.std.proofs.lemmas.List.{length-take, take_all}
-use Rattle.std.proofs.lemmas.List.Sums.{sum_by-cons, sum_by-append, sum_by-take-le}
+use Rattle.std.proofs.lemmas.List.Sums.{sum_by-cons, sum_by-take-le}
 use Rattle.mpb_spec.specs.declared.agent.Op.{Op}
-use Rattle.mpb_spec.specs.declared.agent.Op.TheVariants as op
 use Rattle.mpb_spec.specs.declared.config.DevWord.{DevWord}
 use Rattle.mpb_spec.specs.declared.config.DevWord.TheVariants as word
 use Rattle.mpb_spec.specs.State.{Device}
@@ -17,7 +16,7 @@ use Rattle.mpb_latch.specs.Rule.{hits}
 use Rattle.mpb_latch.proofs.Logs.{news-le-hits}
 use Rattle.mpb_run_laws.specs.declared.act.Act.{Act}
 use Rattle.mpb_run_laws.specs.declared.act.Act.TheVariants as act
-use Rattle.mpb_run_laws.specs.Account.{pulse_of, pulses_in}
+use Rattle.mpb_run_laws.specs.Account.{pulses_in}
 use Rattle.mpb_run_laws.specs.RoundRobin.{acts_of}
 use Rattle.mpb_run_laws.specs.Rest.{op_of_act, pulse_of_act, IsDeviceRun}
 use Rattle.mpb_run_laws.proofs.Places.{is-there}
@@ -114,11 +113,11 @@ done_is_over acts n log v is le = rw (is.program, is.position, take_all n acts l
 -- and one at its end has done them all, since where an act is left, an op is left
 pub over_is_done : (ws : List DevWord) (n : ℕ) (log : List (Pulse × Hit)) (v : Device) → IsDeviceRun (acts_of ws) n log v → length v.program ≤ v.position → n ≡ length (acts_of ws)
 over_is_done ws n log v is over = elim (cases_lt n (length (acts_of ws))) [
-    | inl lt ↦
-        let x = is-there n (acts_of ws) lt in
-        absurd (omega (arith, op-left ws n x.0 x.1, ap (λ (l : List Op). length l) is.program, is.position, over))
-    | inr le ↦ omega (arith, le, is.within)
-  ]
+  | inl lt ↦
+      let x = is-there n (acts_of ws) lt in
+      absurd (omega (arith, op-left ws n x.0 x.1, ap (λ (l : List Op). length l) is.program, is.position, over))
+  | inr le ↦ omega (arith, le, is.within)
+]
 
 -- then its log has all pulses of its words
 pub done_has_all : (ws : List DevWord) (n : ℕ) (log : List (Pulse × Hit)) (v : Device) → IsDeviceRun (acts_of ws) n log v → n ≡ length (acts_of ws) → pulses_of log ≡ pulses_in ws

@@ -1,19 +1,16 @@
 -- A run at whose end no agent may step is complete, and accounts for all pulses.
-use Rattle.std.proofs.Common.{◌≡◌, ◌≢◌, ℕ, zero, suc, ◌+◌, ◌<◌, ◌≤◌, Bool, true, false, not, cond, ◌&&◌, List, [], ◌∷◌, ◌++◌, length, map, get_or, refl, sym, ap, ap₂, ◌∙◌, subst, arith, Option, Some, None, slice_get, sum_by}
+use Rattle.std.proofs.Common.{◌≡◌, ℕ, suc, ◌<◌, ◌≤◌, Bool, true, false, List, [], ◌∷◌, length, map, get_or, refl, sym, ap, ap₂, ◌∙◌, arith, Option, Some, None, slice_get}
 use Rattle.std.specs.Prelude.{Any, IsSome}
 use Rattle.std.specs.Int.{bit_at}
-use Rattle.std.proofs.lemmas.Bool.{le-leb, cases_lt}
+use Rattle.std.proofs.lemmas.Bool.{le-leb}
 use Rattle.std.proofs.lemmas.Nat.Bits.{bit_at-zero}
 use Rattle.mpb_spec.specs.declared.agent.Agent.TheVariants.{Io, Dev}
 use Rattle.mpb_spec.specs.declared.agent.Offer.TheVariants as offer
 use Rattle.mpb_spec.specs.declared.agent.Op.{Op}
-use Rattle.mpb_spec.specs.declared.config.DevWord.{DevWord}
-use Rattle.mpb_spec.specs.State.{Place, Device, boot_is_through, all_ended}
+use Rattle.mpb_spec.specs.State.{Device, boot_is_through, all_ended}
 use Rattle.mpb_spec.specs.Steps.{op_of_device, op_of_place, unless_early}
 use Rattle.mpb_spec.specs.May.{IsQuiescent}
 use Rattle.mpb_spec.specs.Journal.{IsComplete}
-use Rattle.mpb_spec.proofs.StateLemmas.{got_within}
-use Rattle.mpb_laws.proofs.PartsStay.{devices_stay}
 use Rattle.mpb_start_laws.proofs.BootStays.{through}
 use Rattle.mpb_latch.specs.declared.pulse.Pulse.{Pulse}
 use Rattle.mpb_latch.specs.declared.pulse.Hit.{Hit}
@@ -24,7 +21,7 @@ use Rattle.mpb_latch.specs.PlainLatch.{pins_at}
 use Rattle.mpb_latch.proofs.Logs.{first_hits, first_new}
 use Rattle.mpb_latch.proofs.Starts.{sum_above, any_above, starts_le}
 use Rattle.mpb_run_laws.specs.Account.{AccountsForPulses, pulses_in, collected_count}
-use Rattle.mpb_run_laws.specs.RoundRobin.{Run, state_in, acts_of}
+use Rattle.mpb_run_laws.specs.RoundRobin.{Run, state_in}
 use Rattle.mpb_run_laws.specs.Rest.{IsRun, is_over}
 use Rattle.mpb_run_laws.proofs.DeviceActs.{over_is_done, done_has_all}
 use Rattle.mpb_run_laws.proofs.Collects.{place_at, device_at}
@@ -75,7 +72,7 @@ nothing-latched : (r : Run) (a : ℕ) → IsRun r → IsQuiescent (state_in r) �
 nothing-latched r a is quiet lt =
     let p = place_at r a lt in
     let idle : op_of_place (boot_is_through (state_in r)) (all_ended (state_in r)) offer.Sweep (Some p.0) ≡ None =
-        ap (λ q. op_of_place (boot_is_through (state_in r)) (all_ended (state_in r)) offer.Sweep q) (sym p.1) ∙ quiet (Io a) offer.Sweep in
+    ap (λ q. op_of_place (boot_is_through (state_in r)) (all_ended (state_in r)) offer.Sweep q) (sym p.1) ∙ quiet (Io a) offer.Sweep in
     (is.swept a p.0 p.1 (swept (boot_is_through (state_in r)) (all_ended (state_in r)) p.0 (all-over r is quiet) idle)).1
 
 collected-all : (r : Run) (a pin : ℕ) → IsRun r → IsQuiescent (state_in r) → a < length r.plan.ios → pin < 24 → new_hits a pin r.logs ≡ collected_count a pin r.journal

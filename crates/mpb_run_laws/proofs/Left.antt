@@ -1,9 +1,9 @@
 -- At every pin of every I/O APIC, what is left and what was collected are together what the devices plan.
-use Rattle.std.proofs.Common.{◌≡◌, ◌==◌, ℕ, zero, suc, ◌+◌, ◌-◌, ◌/◌, ◌%◌, ◌^◌, ◌<◌, ◌≤◌, Bool, true, false, not, cond, ◌&&◌, List, [], ◌∷◌, length, map, get_or, refl, sym, ap, ◌∙◌, arith, Option, Some, None, slice_get, count_by, fold, nat_lt}
+use Rattle.std.proofs.Common.{◌≡◌, ◌==◌, ℕ, zero, suc, ◌+◌, ◌-◌, ◌/◌, ◌%◌, ◌^◌, ◌<◌, Bool, true, false, not, cond, ◌&&◌, List, [], ◌∷◌, length, map, get_or, refl, sym, ap, ◌∙◌, arith, Option, Some, None, slice_get, fold, nat_lt}
 use Rattle.std.specs.Int.{bit_at}
 use Rattle.std.specs.List.{range_with_len}
-use Rattle.std.proofs.lemmas.Bool.{and_parts, ltb-true, eqb-true, eqb-false, eq-eqb, ne_eqb}
-use Rattle.std.proofs.lemmas.Nat.Bits.{bit_at_lowest, bit_at-suc, bit_at-lt}
+use Rattle.std.proofs.lemmas.Bool.{and_parts, ltb-true, eqb-true, eqb-false}
+use Rattle.std.proofs.lemmas.Nat.Bits.{bit_at_lowest, bit_at-suc}
 use Rattle.std.proofs.lemmas.List.Sums.{sum_by-cons}
 use Rattle.mpb_spec.specs.declared.agent.Agent.{Agent}
 use Rattle.mpb_spec.specs.declared.agent.Agent.TheVariants.{Cpu, Io, Dev}
@@ -17,9 +17,9 @@ use Rattle.mpb_spec.specs.declared.config.DevWord.{DevWord}
 use Rattle.mpb_spec.specs.declared.entry.Entry.{Entry}
 use Rattle.mpb_spec.specs.IoApic.{next_due, written, change_pin, with_line, with_sent, with_eoi}
 use Rattle.mpb_spec.specs.State.{Place, BoardState, processor_of, change_at, boot_is_through, all_ended}
-use Rattle.mpb_spec.specs.Steps.{next_op, after, op_of_place, send_of, all_left, left_after, with_chip, with_pins_of, ended_at_places, level_end, collected, sent_message, deliver_kind, kind_of, due_at, was_accepted, send_outcomes}
+use Rattle.mpb_spec.specs.Steps.{next_op, after, op_of_place, send_of, all_left, left_after, with_chip, with_pins_of, ended_at_places, level_end, collected, sent_message, deliver_kind, due_at, was_accepted, send_outcomes}
 use Rattle.mpb_spec.specs.Plan.{Plan, planned, initial_state_of, first_places}
-use Rattle.mpb_spec.specs.Journal.{IsStep, AreSteps, IsLegal, after_entry, final_state_of}
+use Rattle.mpb_spec.specs.Journal.{AreSteps, IsLegal, after_entry, final_state_of}
 use Rattle.mpb_spec.proofs.StateLemmas.{got_within}
 use Rattle.mpb_laws.proofs.PartsStay.{places_stay}
 use Rattle.mpb_run_laws.specs.Account.{collects, collected_count}

@@ -1,10 +1,8 @@
 -- The round robin of a config ends, and has one end.
-use Rattle.std.proofs.Common.{◌≡◌, ℕ, zero, suc, ◌+◌, ◌^◌, ◌<◌, ◌≤◌, inl, inr, Bool, true, false, Option, Some, None, refl, sym, ap, ◌∙◌, subst, arith}
+use Rattle.std.proofs.Common.{◌≡◌, ℕ, zero, suc, ◌+◌, ◌^◌, ◌<◌, ◌≤◌, inl, inr, Bool, true, false, Some, None, refl, sym, ap, ◌∙◌, subst, arith}
 use Rattle.std.proofs.lemmas.Bool.{cases_lt, cases_eq}
 use Rattle.mpb_spec.specs.declared.agent.Agent.{Agent}
-use Rattle.mpb_spec.specs.declared.agent.Op.{Op}
 use Rattle.mpb_spec.specs.State.{BoardState}
-use Rattle.mpb_spec.specs.Steps.{next_op}
 use Rattle.mpb_spec.specs.Plan.{Plan, plan_size}
 use Rattle.mpb_spec.specs.Configs.{IsConfig}
 use Rattle.mpb_spec.specs.Room.{room}
@@ -12,20 +10,20 @@ use Rattle.mpb_spec.specs.May.{MayAny, IsQuiescent}
 use Rattle.mpb_spec.specs.Asks.{any_step}
 use Rattle.mpb_spec.proofs.Quiet.{quiet_is, step_is}
 use Rattle.mpb_run_laws.specs.RoundRobin.{Run, state_in, rounds, first_run, IsRoundRobinEnd}
-use Rattle.mpb_run_laws.specs.Rest.{IsRun, done_in}
+use Rattle.mpb_run_laws.specs.Rest.{done_in}
 use Rattle.mpb_run_laws.proofs.Progress.{bounded}
 use Rattle.mpb_run_laws.proofs.Rounds.{goes_on, rounds_are}
 
 pub same_end : (c : Plan) (r s : Run) → IsRoundRobinEnd c r → IsRoundRobinEnd c s → r ≡ s
 same_end c r s x y = r-is (elim (cases_lt x.count y.count) [
-    | inl lt ↦ absurd (y.first x.count lt (subst (λ (t : Run). IsQuiescent (state_in t)) x.run x.quiet))
-    | inr le ↦ elim (cases_lt y.count x.count) [
-        | inl lt ↦ absurd (x.first y.count lt (subst (λ (t : Run). IsQuiescent (state_in t)) y.run y.quiet))
-        | inr ge ↦ omega (arith, le, ge)
-      ]
-  ]) where
-    r-is : x.count ≡ y.count → r ≡ s
-    r-is e = x.run ∙ ap (λ n. rounds n (first_run c)) e ∙ sym y.run
+  | inl lt ↦ absurd (y.first x.count lt (subst (λ (t : Run). IsQuiescent (state_in t)) x.run x.quiet))
+  | inr le ↦ elim (cases_lt y.count x.count) [
+    | inl lt ↦ absurd (x.first y.count lt (subst (λ (t : Run). IsQuiescent (state_in t)) y.run y.quiet))
+    | inr ge ↦ omega (arith, le, ge)
+  ]
+]) where
+  r-is : x.count ≡ y.count → r ≡ s
+  r-is e = x.run ∙ ap (λ n. rounds n (first_run c)) e ∙ sym y.run
 
 -- where one may step, not all are idle
 busy : (s : BoardState) (g : Agent) → MayAny s g → ¬ IsQuiescent s
@@ -43,9 +41,9 @@ module _ (c : Plan) (config : IsConfig c) (small : plan_size c < 2 ^ 32) where
 
   none-before : (n : ℕ) → ((m : ℕ) → m < n → ¬ IsQuiescent (state_in (after m))) → ¬ IsQuiescent (state_in (after n)) → (m : ℕ) → m < suc n → ¬ IsQuiescent (state_in (after m))
   none-before n before here m lt = elim (cases_eq m n) [
-      | inl e ↦ subst (λ (k : ℕ). ¬ IsQuiescent (state_in (after k))) (sym e) here
-      | inr ne ↦ before m (omega (arith, lt, ne))
-    ]
+    | inl e ↦ subst (λ (k : ℕ). ¬ IsQuiescent (state_in (after k))) (sym e) here
+    | inr ne ↦ before m (omega (arith, lt, ne))
+  ]
 
   stays : (n : ℕ) → any_step (state_in (after n)) ≡ true → ¬ IsQuiescent (state_in (after n))
   stays n e = let h = step_is (state_in (after n)) e in busy (state_in (after n)) h.0 h.1

@@ -1,7 +1,6 @@
 -- A round does more, or all agents are stuck; and no more can be done than the plan allows.
-use Rattle.std.proofs.Common.{◌≡◌, ℕ, zero, suc, ◌+◌, ◌<◌, ◌≤◌, ◌⊎◌, inl, inr, List, [], ◌∷◌, ◌++◌, length, map, get_or, fold, refl, sym, ap, ◌∙◌, subst, arith, sum_by}
+use Rattle.std.proofs.Common.{◌≡◌, ℕ, zero, suc, ◌+◌, ◌<◌, ◌≤◌, ◌⊎◌, inl, inr, List, [], ◌∷◌, ◌++◌, length, map, get_or, fold, refl, sym, ◌∙◌, subst, arith}
 use Rattle.std.specs.List.{AllByRecursion, range_with_len}
-use Rattle.std.proofs.lemmas.List.Sums.{sum_by-cons}
 use Rattle.mpb_spec.specs.declared.agent.Agent.{Agent}
 use Rattle.mpb_spec.specs.declared.agent.Agent.TheVariants.{Cpu, Io, Dev}
 use Rattle.mpb_spec.specs.declared.config.DevWord.{DevWord}
@@ -11,7 +10,7 @@ use Rattle.mpb_spec.specs.Room.{room}
 use Rattle.mpb_laws.proofs.RoomSum.{within_room}
 use Rattle.mpb_latch.specs.declared.pulse.Pulse.{Pulse}
 use Rattle.mpb_latch.specs.declared.pulse.Hit.{Hit}
-use Rattle.mpb_run_laws.specs.RoundRobin.{Run, state_in, acts_of, turn, round, agents_of}
+use Rattle.mpb_run_laws.specs.RoundRobin.{Run, state_in, turn, round, agents_of}
 use Rattle.mpb_run_laws.specs.Rest.{IsRun, IsAgentOf, done_in}
 use Rattle.mpb_run_laws.proofs.DeviceActs.{sums-le, log-le}
 use Rattle.mpb_run_laws.proofs.Collects.{device_at}
@@ -89,7 +88,7 @@ goes_on_if keeps r is busy = elim (round_is keeps r is).more [ inl more ↦ more
 pub bounded : (r : Run) → IsRun r → done_in r ≤ room r.plan + plan_size r.plan
 bounded r is =
     let logs = sums-le (λ (log : List (Pulse × Hit)). length log) (λ (ws : List DevWord). length ws + 2) r.logs r.plan.devices [] [] is.logs
-        (λ d lt.
-            let v = device_at r d (omega (arith, lt, is.logs)) in
-            log-le (get_or r.made d 0) (get_or r.plan.devices d []) (get_or r.logs d []) v.0 (is.each d v.0 v.1)) in
+    (λ d lt.
+    let v = device_at r d (omega (arith, lt, is.logs)) in
+    log-le (get_or r.made d 0) (get_or r.plan.devices d []) (get_or r.logs d []) v.0 (is.each d v.0 v.1)) in
     omega (arith, within_room r.plan r.journal is.config is.legal, logs)

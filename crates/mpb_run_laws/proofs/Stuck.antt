@@ -1,7 +1,7 @@
 -- A run in which each agent of the board is stuck is at its end: no agent may step.
-use Rattle.std.proofs.Common.{◌≡◌, ◌≢◌, ◌==◌, ℕ, zero, suc, ◌+◌, ◌^◌, ◌<◌, ◌≤◌, ◌⊎◌, inl, inr, Bool, true, false, not, cond, ◌&&◌, List, [], ◌∷◌, ◌++◌, length, map, get_or, refl, sym, ap, ◌∙◌, subst, arith, Option, Some, None, slice_get, count_by, nat_lt, nat_le}
-use Rattle.std.specs.List.{AllByRecursion, range_with_len, list_all, filter_map}
-use Rattle.std.proofs.lemmas.Bool.{and_from, and_parts, le-leb, leb-true, eqb-true, cases_lt}
+use Rattle.std.proofs.Common.{◌≡◌, ◌==◌, ℕ, zero, suc, ◌+◌, ◌<◌, ◌≤◌, inl, inr, Bool, true, false, not, cond, ◌&&◌, List, [], ◌∷◌, ◌++◌, length, map, get_or, refl, sym, ap, ◌∙◌, subst, arith, Option, Some, None, slice_get, count_by}
+use Rattle.std.specs.List.{AllByRecursion, range_with_len, list_all}
+use Rattle.std.proofs.lemmas.Bool.{and_from, and_parts, le-leb, eqb-true, cases_lt}
 use Rattle.std.proofs.lemmas.List.Sums.{sum_by-cons}
 use Rattle.mpb_spec.specs.declared.agent.Agent.{Agent}
 use Rattle.mpb_spec.specs.declared.agent.Agent.TheVariants.{Cpu, Io, Dev}
@@ -9,16 +9,15 @@ use Rattle.mpb_spec.specs.declared.agent.Offer.{Offer}
 use Rattle.mpb_spec.specs.declared.agent.Offer.TheVariants as offer
 use Rattle.mpb_spec.specs.declared.agent.Op.{Op}
 use Rattle.mpb_spec.specs.declared.agent.Op.TheVariants as op
-use Rattle.mpb_spec.specs.State.{Processor, Place, Device, BoardState, processor_of, boot_is_through, all_ended}
-use Rattle.mpb_spec.specs.Steps.{next_op, op_of_processor, op_of_device, op_of_place, unless_early, all_left}
-use Rattle.mpb_spec.specs.Plan.{Plan, CpuPlan}
+use Rattle.mpb_spec.specs.State.{Processor, Place, Device, processor_of, boot_is_through, all_ended}
+use Rattle.mpb_spec.specs.Steps.{next_op, op_of_processor, op_of_device, op_of_place, unless_early}
+use Rattle.mpb_spec.specs.Plan.{CpuPlan}
 use Rattle.mpb_spec.specs.May.{IsQuiescent}
 use Rattle.mpb_spec.proofs.StateLemmas.{got_within, got_beyond}
 use Rattle.mpb_laws.proofs.PartsStay.{ids_stay, places_stay, devices_stay}
-use Rattle.mpb_run_laws.specs.declared.act.Act.{Act}
 use Rattle.mpb_run_laws.specs.declared.act.Act.TheVariants as act
-use Rattle.mpb_run_laws.specs.RoundRobin.{Run, state_in, acts_of, next_act, agents_of}
-use Rattle.mpb_run_laws.specs.Rest.{IsRun, IsDeviceRun, is_over}
+use Rattle.mpb_run_laws.specs.RoundRobin.{Run, state_in, acts_of, agents_of}
+use Rattle.mpb_run_laws.specs.Rest.{IsRun, is_over}
 use Rattle.mpb_run_laws.proofs.DeviceActs.{next_op_is, done_is_over}
 use Rattle.mpb_run_laws.proofs.Places.{is-there}
 use Rattle.mpb_run_laws.proofs.Turns.{IsStuck}
@@ -76,7 +75,7 @@ over-at r d v is at through (inl none) =
 over-at r d v is at through (inr early) =
     let program = next_op_is (acts_of (get_or r.plan.devices d [])) (get_or r.made d 0) (get_or r.logs d []) v act.Begin op.Begin (is.each d v at) early.0 refl in
     let begin : next_op (state_in r) (Dev d) offer.Next ≡ Some op.Begin =
-        ap (λ q. op_of_device (boot_is_through (state_in r)) q) at ∙ ap (λ q. unless_early (boot_is_through (state_in r)) q) program ∙ ap (λ (t : Bool). cond t (Some op.Begin) None) through in
+    ap (λ q. op_of_device (boot_is_through (state_in r)) q) at ∙ ap (λ q. unless_early (boot_is_through (state_in r)) q) program ∙ ap (λ (t : Bool). cond t (Some op.Begin) None) through in
     let off : None ≡ Some op.Begin = sym early.1 ∙ begin in
     cc
 
@@ -156,7 +155,7 @@ stuck_is_quiet r is stuck = idle where
   place a (Some p) at f =
       let here = stuck.ios a (omega (arith, got_within a (state_in r).places p at, places_stay r.plan r.journal)) in
       let back : (f : Offer) → op_of_place (boot_is_through (state_in r)) (all_ended (state_in r)) f (Some p) ≡ op_of_place (boot_is_through (state_in r)) (all_ended (state_in r)) f (slice_get (state_in r).places a) =
-          λ f. sym (ap (λ q. op_of_place (boot_is_through (state_in r)) (all_ended (state_in r)) f q) at) in
+      λ f. sym (ap (λ q. op_of_place (boot_is_through (state_in r)) (all_ended (state_in r)) f q) at) in
       ap (λ q. op_of_place (boot_is_through (state_in r)) (all_ended (state_in r)) f q) at
       ∙ place-idle (boot_is_through (state_in r)) (all_ended (state_in r)) p (back offer.Next ∙ here.0) (λ full. back offer.Sweep ∙ here.1 (latch_is_full r is full)) (all_over r is stuck) f
 

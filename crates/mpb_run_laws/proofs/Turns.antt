@@ -1,5 +1,5 @@
 -- A turn does more, or it leaves the run as it is: then its agent is stuck.
-use Rattle.std.proofs.Common.{◌≡◌, ◌≢◌, ◌==◌, ℕ, zero, suc, ◌+◌, ◌<◌, ◌≤◌, ◌⊎◌, inl, inr, Bool, true, false, cond, List, [], ◌∷◌, ◌++◌, length, get_or, set, refl, sym, ap, ◌∙◌, subst, arith, Option, Some, None, is_some, slice_get, sum_by}
+use Rattle.std.proofs.Common.{◌≡◌, ◌==◌, ℕ, zero, suc, ◌+◌, ◌<◌, ◌⊎◌, inl, inr, Bool, true, false, cond, List, [], ◌∷◌, ◌++◌, length, get_or, refl, sym, ap, ◌∙◌, subst, arith, Option, Some, None, is_some, sum_by}
 use Rattle.std.proofs.lemmas.Bool.{eq-eqb, ne_eqb, cases_eq}
 use Rattle.std.proofs.lemmas.List.{length_push}
 use Rattle.std.proofs.lemmas.List.Sums.{sum_by-cons}
@@ -9,14 +9,14 @@ use Rattle.mpb_spec.specs.declared.agent.Offer.TheVariants as offer
 use Rattle.mpb_spec.specs.declared.agent.Op.{Op}
 use Rattle.mpb_spec.specs.declared.agent.Op.TheVariants as op
 use Rattle.mpb_spec.specs.declared.config.DevWord.TheVariants as word
-use Rattle.mpb_spec.specs.State.{boot_is_through, all_ended, change_at}
+use Rattle.mpb_spec.specs.State.{boot_is_through, change_at}
 use Rattle.mpb_spec.specs.Steps.{next_op, op_of_device, unless_early}
 use Rattle.mpb_latch.specs.declared.pulse.Pulse.{Pulse}
 use Rattle.mpb_latch.specs.declared.pulse.Hit.{Hit}
 use Rattle.mpb_latch.specs.PlainLatch.{pins_at}
 use Rattle.mpb_run_laws.specs.declared.act.Act.{Act}
 use Rattle.mpb_run_laws.specs.declared.act.Act.TheVariants as act
-use Rattle.mpb_run_laws.specs.RoundRobin.{Run, state_in, entry_of, with_op, with_op_of, with_step, with_taken, with_collected, send_or_sweep, io_turn, acts_of, next_act, with_made, with_pulse, with_end, act_turn, turn}
+use Rattle.mpb_run_laws.specs.RoundRobin.{Run, state_in, entry_of, with_op, with_op_of, with_taken, with_collected, send_or_sweep, io_turn, acts_of, next_act, with_made, act_turn, turn}
 use Rattle.mpb_run_laws.specs.Rest.{op_of_act, IsRun, IsAgentOf, done_in}
 use Rattle.mpb_run_laws.proofs.StepsKeep.{taken-none}
 use Rattle.mpb_run_laws.proofs.DeviceActs.{next_op_is}
@@ -63,14 +63,14 @@ empty-turn r a =
 
 place-turn : (r : Run) (a : ℕ) → IsRun r → a < length r.plan.ios → DoesMore r (io_turn a r) ⊎ ((io_turn a r ≡ r) × IsStuck (Io a) r)
 place-turn r a is lt = elim (cases_eq (pins_at a r.latch) 0) [
-      | inl none ↦
-          let here : io_turn a r ≡ send_or_sweep a r = ap (λ b. cond b (send_or_sweep a (with_taken a r)) (with_collected a (pins_at a r.latch) (with_taken a r))) (eq-eqb (pins_at a r.latch) 0 none) ∙ ap (send_or_sweep a) (taken-none a r none) in
-          subst (λ (s : Run). DoesMore r s ⊎ ((s ≡ r) × IsStuck (Io a) r)) (sym here) (empty-turn r a)
-      | inr some ↦
-          let here : io_turn a r ≡ with_collected a (pins_at a r.latch) (with_taken a r) = ap (λ b. cond b (send_or_sweep a (with_taken a r)) (with_collected a (pins_at a r.latch) (with_taken a r))) (ne_eqb (pins_at a r.latch) 0 some) in
-          let more : DoesMore r (with_collected a (pins_at a r.latch) (with_taken a r)) = sure-step (Io a) (op.Collect (pins_at a r.latch)) (with_taken a r) (next_op (state_in r) (Io a) (offer.Collect (pins_at a r.latch))) (collect_is r a is lt some) in
-          inl (subst (λ (s : Run). DoesMore r s) (sym here) more)
-    ]
+  | inl none ↦
+      let here : io_turn a r ≡ send_or_sweep a r = ap (λ b. cond b (send_or_sweep a (with_taken a r)) (with_collected a (pins_at a r.latch) (with_taken a r))) (eq-eqb (pins_at a r.latch) 0 none) ∙ ap (send_or_sweep a) (taken-none a r none) in
+      subst (λ (s : Run). DoesMore r s ⊎ ((s ≡ r) × IsStuck (Io a) r)) (sym here) (empty-turn r a)
+  | inr some ↦
+      let here : io_turn a r ≡ with_collected a (pins_at a r.latch) (with_taken a r) = ap (λ b. cond b (send_or_sweep a (with_taken a r)) (with_collected a (pins_at a r.latch) (with_taken a r))) (ne_eqb (pins_at a r.latch) 0 some) in
+      let more : DoesMore r (with_collected a (pins_at a r.latch) (with_taken a r)) = sure-step (Io a) (op.Collect (pins_at a r.latch)) (with_taken a r) (next_op (state_in r) (Io a) (offer.Collect (pins_at a r.latch))) (collect_is r a is lt some) in
+      inl (subst (λ (s : Run). DoesMore r s) (sym here) more)
+]
 
 -- ---- a device
 
