@@ -6,3 +6,7 @@ mod act;
 mod laws;
 
 pub use act::Act;
+pub use laws::{
+    latched_pins_can_be_collected, quiet_runs_are_complete, round_robins_are_complete,
+    round_robins_have_one_end, rounds_go_on, turns_keep,
+};
