@@ -4,3 +4,4 @@
 mod agents;
 mod lists;
 mod run;
+mod turns;

@@ -82,12 +82,12 @@ module _ (r : Run) (d : ℕ) (v : Device) (a : Act) (ok : IsRun r) (at : slice_g
   not-over = lt-leb (length v.program) v.position (let e = ap (λ (xs : List Op). length xs) mine.program in let p = mine.position in let l = op-left words n a next in omega arith)
 
   -- so not all devices have ended
-  pub not-all : r.latch.ended < r.latch.devices
-  not-all = let c = count-below is_over d (state_in r).devices v at not-over in let e = ok.ended in let t = ok.total in let l = devices_stay r.plan r.journal in omega arith
+  pub all_not_over : r.latch.ended < r.latch.devices
+  all_not_over = let c = count-below is_over d (state_in r).devices v at not-over in let e = ok.ended in let t = ok.total in let l = devices_stay r.plan r.journal in omega arith
 
   -- and no I/O APIC has swept
   pub none-swept : (b : ℕ) (p : Place) → slice_get (state_in r).places b ≡ Some p → p.swept ≡ true → ⊥
-  none-swept b p e w = let h = (ok.swept b p e w).0 in let l = not-all in absurd (omega arith)
+  none-swept b p e w = let h = (ok.swept b p e w).0 in let l = all_not_over in absurd (omega arith)
 
   -- behind its Begin the boot program is through
   pub through-later : 0 < n → Through (state_in r)
@@ -337,8 +337,8 @@ module _ (r : Run) (d : ℕ) (v : Device) (a : Act) (ok : IsRun r) (at : slice_g
 -- ---- turns
 
 -- the words of a device name pins that there are
-word-in : (r : Run) (d : ℕ) (a pin : ℕ) → IsRun r → next_act d r ≡ Some (act.Word (word.Pulse a pin)) → (a < length r.plan.ios) × (pin < 24)
-word-in r d a pin ok next = words-in (get_or r.plan.devices d []) (get_or r.made d 0) (all-at r.plan.devices d ok.config.words) next where
+pub word_in : (r : Run) (d : ℕ) (a pin : ℕ) → IsRun r → next_act d r ≡ Some (act.Word (word.Pulse a pin)) → (a < length r.plan.ios) × (pin < 24)
+word_in r d a pin ok next = words-in (get_or r.plan.devices d []) (get_or r.made d 0) (all-at r.plan.devices d ok.config.words) next where
   all-at : (ds : List (List DevWord)) (k : ℕ) → Rattle.std.specs.List.AllByRecursion (Rattle.std.specs.List.AllByRecursion (IsWordOn (length r.plan.ios))) ds → Rattle.std.specs.List.AllByRecursion (IsWordOn (length r.plan.ios)) (get_or ds k [])
   all-at [] k h = tt
   all-at (ws ∷ ds) zero h = h.0
@@ -412,7 +412,7 @@ dev_keeps r d ok here = go (next_act d r) refl where
   go (Some act.Begin) next = begins (next_op (state_in r) (Dev d) Next) refl next
   go (Some (act.Word (word.Pulse a pin))) next =
       let p : Pulse = record { io = a; pin = pin } in
-      let l = word-in r d a pin ok next in
+      let l = word_in r d a pin ok next in
       pulsed-run r d found.0 (act.Word (word.Pulse a pin)) ok found.1 next p refl l.0 l.1
   go (Some (act.Word (word.High a pin))) next = steps (act.Word (word.High a pin)) (op.High a pin) next refl refl (word-begin (word.High a pin)) (word-end (word.High a pin)) refl
   go (Some (act.Word (word.Low a pin))) next = steps (act.Word (word.Low a pin)) (op.Low a pin) next refl refl (word-begin (word.Low a pin)) (word-end (word.Low a pin)) refl
