@@ -3,5 +3,10 @@
 
 mod agents;
 mod lists;
+mod ran;
+mod robin;
 mod run;
 mod turns;
+
+pub use ran::Ran;
+pub use robin::round_robin;

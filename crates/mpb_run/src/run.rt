@@ -5,8 +5,10 @@ ghost use Rattle.std.specs.Int.{bit_at};
 ghost use Rattle.mpb_spec.specs.May.{MayStep, IsQuiescent};
 ghost use Rattle.mpb_spec.specs.Steps.{next_op};
 ghost use Rattle.mpb_latch.specs.PlainLatch.{pins_at};
+ghost use Rattle.mpb_latch.specs.Pulses.{logs_of, counts_of};
 ghost use Rattle.mpb_run_laws.specs.RoundRobin.{state_in, first_run, with_step, with_taken, with_counted, with_made, with_pulse, with_end, next_act, acts_of};
 
+use crate::ran::Ran;
 use crate::lists::{count_pins, log_hit, no_counts, no_logs, none_made, one_more};
 use mpb_board::Board;
 use mpb_latch::{Account, Hit, PlainLatch, Pulse};
@@ -143,6 +145,21 @@ impl Run {
         match log_hit(&mut self.logs, device as usize, pulse, hit) {
             Ok(()) => Ok(()),
             Err(_) => Err(NoMemory),
+        }
+    }
+
+    /// The board and the account.
+    pub(crate) fn ran(self) -> Ran
+        ensures board { (result.board.plan ≡ self.plan) × (result.board.journal ≡ self.journal) }
+        ensures logs { logs_of result.account ≡ self.logs }
+        ensures counts { counts_of result.account ≡ self.counts }
+    {
+        Ran {
+            board: self.board,
+            account: Account {
+                logs: self.logs,
+                collected: self.counts,
+            },
         }
     }
 
