@@ -1,5 +1,9 @@
 //! What is left of a latch at its end.
 
+ghost use Rattle.std.specs.Prelude.{◌≡◌, ◌<◌, ◌^◌, ◌+◌, ℕ, length, slice_index};
+ghost use Rattle.std.specs.Int.{bit_at};
+ghost use Rattle.mpb_latch.specs.Pulses.{with_pins};
+
 use crate::pulse::{Hit, Pulse};
 
 /// What the devices pulsed, and what was collected.
@@ -9,4 +13,15 @@ pub struct Account {
     pub logs: Vec<Vec<(Pulse, Hit)>>,
     /// For each I/O APIC how often each of its 24 pins was collected.
     pub collected: Vec<Vec<u32>>,
+}
+
+/// Counts these pins of an I/O APIC, bit n for pin n, as collected once more. There are 24 counts.
+pub fn add_pins(counts: &mut [u32], pins: u32)
+    requires wide { length counts.old ≡ 24 }
+    requires low { (pin : ℕ) → pin < 24 → slice_index counts.old pin + bit_at pins pin < 2 ^ 32 }
+    ensures { counts.new ≡ with_pins pins counts.old }
+{
+    for pin in 0..24usize {
+        counts[pin] += pins >> pin & 1;
+    }
 }

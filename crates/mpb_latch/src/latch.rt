@@ -7,7 +7,7 @@ ghost use Rattle.mpb_latch.specs.declared.pulse.Hit.TheVariants.{New};
 ghost use Rattle.mpb_latch.specs.Pulses.{IsInRange, FollowsPlan, counts_of, first_hit, hit_of, logs_of, new_hits, planned, pulses_of, with_pins, with_pins_from};
 ghost use Rattle.mpb_latch.specs.Seats.{fresh_device_seat, fresh_collector_seat};
 
-use crate::account::Account;
+use crate::account::{Account, add_pins};
 use crate::closing::{settle, take_all};
 use crate::opening::{Words, collector_seats, copied, device_seats, open_words};
 use crate::pulse::{Hit, Pulse};
@@ -49,16 +49,6 @@ fn hit_at(found: u64, pin: u8) -> Hit
         Hit::New
     } else {
         Hit::Merged
-    }
-}
-
-/// Adds the bits to the counts.
-fn add_bits_to(counts: &mut [u32], found: u32)
-    requires { (length counts.old ≡ 24) × ((pin : ℕ) → pin < 24 → slice_index counts.old pin + bit_at found pin < 2 ^ 32) }
-    ensures { counts.new ≡ with_pins_from found 0 counts.old }
-{
-    for pin in 0..24usize {
-        counts[pin] += found >> pin & 1;
     }
 }
 
@@ -139,7 +129,7 @@ impl Latch {
     {
         let word = col.io as usize + 1;
         let found = self.table.shared.swap::<Collected>(&mut col.seat, word, 0);
-        add_bits_to(&mut col.counts, found as u32);
+        add_pins(&mut col.counts, found as u32);
         found as u32
     }
 

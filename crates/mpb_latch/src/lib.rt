@@ -15,7 +15,7 @@ mod seat;
 mod threads;
 mod view;
 
-pub use account::Account;
+pub use account::{Account, add_pins};
 pub use latch::Latch;
 pub use plain::PlainLatch;
 pub use pulse::{Hit, Pulse};

@@ -1,4 +1,4 @@
-use Rattle.std.proofs.Common.{◌≡◌, ◌∙◌, arith, ap, map}
+use Rattle.std.proofs.Common.{◌∙◌, ap, map}
 use Rattle.mpb_latch.proofs.Cuts.{joins_views}
 use Rattle.mpb_latch.proofs.closing.take_collector.Goals as goal
 

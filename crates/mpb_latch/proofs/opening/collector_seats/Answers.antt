@@ -1,9 +1,9 @@
-use Rattle.std.proofs.Common.{arith, ◌≡◌, ◌≤◌, ◌++◌, ◌∷◌, [], length, List, subst, sym, ap, ◌∙◌, map, take, drop, get_or, sum_by}
-use Rattle.std.proofs.lemmas.List.{length-map, map-append, drop_all, take_all}
+use Rattle.std.proofs.Common.{arith, ◌++◌, ◌∷◌, [], length, List, sym, ap, ◌∙◌, map, take, get_or, sum_by}
+use Rattle.std.proofs.lemmas.List.{length-map, drop_all, take_all}
 use Rattle.std.specs.List.{range_with_len}
 use Rattle.mpb_latch.specs.declared.view.CollectorView.{CollectorView}
 use Rattle.mpb_latch.specs.Seats.{CollectorSeat, fresh_collector_seat}
-use Rattle.mpb_latch.specs.Rule.{collector_of, no_collector, without_collector, shown_collector, fresh_collector, fresh_collectors}
+use Rattle.mpb_latch.specs.Rule.{no_collector, without_collector, shown_collector, fresh_collector, fresh_collectors}
 use Rattle.mpb_latch.proofs.Starts.{sum_map, fresh_count, first_left, rest_left, one_seat_more, seat_count}
 use Rattle.mpb_latch.proofs.opening.collector_seats.Goals as goal
 

@@ -1,4 +1,4 @@
-use Rattle.std.proofs.Common.{arith, map}
+use Rattle.std.proofs.Common.{map}
 use Rattle.mpb_latch.proofs.Cuts.{cuts_collector}
 use Rattle.mpb_latch.proofs.opening.cut_collector.Goals as goal
 

@@ -1,4 +1,4 @@
-use Rattle.std.proofs.Common.{◌≡◌, ◌≤◌, ◌<◌, ◌+◌, ℕ, List, arith, length, map, sym, ap, ◌∙◌, get_or, subst}
+use Rattle.std.proofs.Common.{◌≡◌, ℕ, List, arith, length, map, sym, ap, ◌∙◌, get_or}
 use Rattle.std.specs.List.{range_with_len}
 use Rattle.std.proofs.lemmas.List.{length-map}
 use Rattle.std.proofs.lemmas.List.FromFn.{length-range_with_len}

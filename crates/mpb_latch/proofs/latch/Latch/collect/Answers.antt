@@ -41,17 +41,18 @@ swap-found-requires c =
           ),
     )
 
-pub add_bits_to-requires : goal.add_bits_to-requires
-add_bits_to-requires c =
+pub add_pins-requires : goal.add_pins-requires
+add_pins-requires c =
     let col = c.col.inside in
     let x = collector_of col.seat.me.0 in
     let n = c.swap-found.result in
     let here = c.deref_mut.ensures.value in
     let counted = c.col.invariant.3 in
     let len : length col.counts.items ≡ 24 = counted.1 in
-    let told = c.swap-found.ensures.2.3 in (
-      ap (λ (l : List ℕ). length l) here ∙ len,
-      λ pin l.
+    let told = c.swap-found.ensures.2.3 in
+    record {
+      wide = ap (λ (l : List ℕ). length l) here ∙ len;
+      low = λ pin l.
           (let now = ap (λ (xs : List ℕ). slice_index xs pin) (here ∙ counted.0) in
           let len' = ap (λ (xs : List ℕ). length xs) counted.0 in
           let sum = add_at n 0 x.counts pin (omega arith) in
@@ -59,8 +60,8 @@ add_bits_to-requires c =
           let t = told pin l in
           let all = all_planned-le x.io pin x.plans in
           let few = c.col.invariant.4 in
-          omega arith),
-    )
+          omega arith);
+    }
 
 pub returns-clause-counts : goal.returns-clause-counts
 returns-clause-counts c pin l =

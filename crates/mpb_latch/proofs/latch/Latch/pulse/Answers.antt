@@ -9,7 +9,6 @@ use Rattle.atomic_table.specs.Table.{keeps}
 use Rattle.mpb_latch.specs.declared.pulse.Pulse.{Pulse}
 use Rattle.mpb_latch.specs.declared.pulse.Hit.{Hit}
 use Rattle.mpb_latch.specs.declared.view.DeviceView.{DeviceView}
-use Rattle.mpb_latch.specs.declared.view.SeatView.{SeatView}
 use Rattle.mpb_latch.specs.Pulses.{FollowsPlan, hit_of}
 use Rattle.mpb_latch.specs.Seats.{DeviceSeat}
 use Rattle.mpb_latch.specs.Rule.{device_of, no_pulse, next_of, device, shown_device, after_pulse}

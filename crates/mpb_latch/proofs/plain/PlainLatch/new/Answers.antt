@@ -1,4 +1,4 @@
-use Rattle.std.proofs.Common.{◌≡◌, ℕ, List, ap}
+use Rattle.std.proofs.Common.{ℕ, List, ap}
 use Rattle.mpb_latch.specs.PlainLatch.{PlainState}
 use Rattle.mpb_latch.proofs.Words.{take-zeros}
 use Rattle.mpb_latch.proofs.plain.PlainLatch.new.Goals as goal

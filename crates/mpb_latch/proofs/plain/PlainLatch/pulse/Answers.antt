@@ -1,8 +1,8 @@
-use Rattle.std.proofs.Common.{◌≡◌, ◌<◌, ◌^◌, ◌≤◌, ◌*◌, ◌%◌, ℕ, List, length, take, set, get_or, bit_or, sym, ap, ◌∙◌, subst, arith, length-set}
+use Rattle.std.proofs.Common.{◌≡◌, ◌<◌, ◌^◌, ◌≤◌, ◌*◌, ◌%◌, ℕ, List, length, take, set, get_or, bit_or, ap, ◌∙◌, arith, length-set}
 use Rattle.std.specs.Int.{bit_at}
 use Rattle.std.proofs.lemmas.List.{length-take-le}
 use Rattle.std.proofs.lemmas.List.Elements.{All-set}
-use Rattle.mpb_latch.specs.PlainLatch.{PlainState, pulsed}
+use Rattle.mpb_latch.specs.PlainLatch.{PlainState}
 use Rattle.mpb_latch.proofs.Words.{with_pin_lt, words_pulsed, pins_pulsed}
 use Rattle.mpb_latch.proofs.plain.PlainLatch.pulse.Goals as goal
 

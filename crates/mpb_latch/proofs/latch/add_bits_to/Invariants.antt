@@ -1,6 +1,0 @@
-use Rattle.std.proofs.Common.{◌≡◌, ◌≤◌, ◌++◌, take, drop, length}
-use Rattle.mpb_latch.specs.Pulses.{with_pins_from}
-use Rattle.mpb_latch.proofs.latch.add_bits_to.Given as goal
-
-abbrev pub invariant-loop-pin : goal.invariant-loop-pin
-invariant-loop-pin l = l.counts ≡ with_pins_from l.found 0 (take l.pin l.initial.counts) ++ drop l.pin l.initial.counts

@@ -1,0 +1,71 @@
+//! What a run keeps for the account: one thing more of a device, of an I/O APIC.
+
+ghost use Rattle.std.specs.Prelude.{◌≡◌, ◌<◌, ◌^◌, ◌+◌, ◌++◌, ◌∷◌, [], ℕ, suc, IfOk, OnOk, map, length, slice_index, slice_index_or, replicate};
+ghost use Rattle.std.specs.Int.{bit_at};
+ghost use Rattle.mpb_spec.specs.State.{change_at};
+ghost use Rattle.mpb_latch.specs.Pulses.{with_pins};
+
+use mpb_latch::{Hit, Pulse, add_pins};
+use std::alloc::{AllocError, Global};
+
+/// The device has done one thing more.
+pub(crate) fn one_more(made: &mut Vec<usize>, device: usize)
+    requires there { device < length made.old.items }
+    requires low { slice_index made.old.items device + 1 < 2 ^ 64 }
+    ensures { made.new.items ≡ change_at device suc made.old.items }
+{
+    made[device] += 1;
+}
+
+/// The device's log has one pulse more, with its answer.
+pub(crate) fn log_hit(
+    logs: &mut Vec<Vec<(Pulse, Hit)>>,
+    device: usize,
+    pulse: Pulse,
+    hit: Hit,
+) -> Result<(), AllocError>
+    requires { device < length logs.old.items }
+    ensures { OnOk result (map (λ l. l.items) logs.new.items ≡ change_at device (λ l. l ++ (pulse, hit) ∷ []) (map (λ l. l.items) logs.old.items)) }
+{
+    logs[device].push((pulse, hit))?;
+    Ok(())
+}
+
+/// The pins of the I/O APIC are counted as collected once more.
+pub(crate) fn count_pins(counts: &mut Vec<Vec<u32>>, place: usize, pins: u32)
+    requires there { place < length counts.old.items }
+    requires wide { length (slice_index_or (map (λ l. l.items) counts.old.items) place []) ≡ 24 }
+    requires low { (pin : ℕ) → pin < 24 → slice_index (slice_index_or (map (λ l. l.items) counts.old.items) place []) pin + bit_at pins pin < 2 ^ 32 }
+    ensures { map (λ l. l.items) counts.new.items ≡ change_at place (with_pins pins) (map (λ l. l.items) counts.old.items) }
+{
+    add_pins(&mut counts[place], pins);
+}
+
+/// No device has done anything.
+pub(crate) fn none_made(alloc: Global, n: usize) -> Result<Vec<usize>, AllocError>
+    ensures { IfOk result (λ made. made.items ≡ replicate n 0) }
+{
+    vec![in alloc; 0; n]
+}
+
+/// No device has pulsed.
+pub(crate) fn no_logs(alloc: Global, n: usize) -> Result<Vec<Vec<(Pulse, Hit)>>, AllocError>
+    ensures { IfOk result (λ logs. map (λ l. l.items) logs.items ≡ replicate n []) }
+{
+    let mut logs = Vec::new(alloc);
+    for _ in 0..n {
+        logs.push(Vec::new(alloc))?;
+    }
+    Ok(logs)
+}
+
+/// No pin was collected.
+pub(crate) fn no_counts(alloc: Global, n: usize) -> Result<Vec<Vec<u32>>, AllocError>
+    ensures { IfOk result (λ counts. map (λ l. l.items) counts.items ≡ replicate n (replicate 24 0)) }
+{
+    let mut counts = Vec::new(alloc);
+    for _ in 0..n {
+        counts.push(vec![in alloc; 0; 24]?)?;
+    }
+    Ok(counts)
+}

@@ -1,0 +1,11 @@
+//! A board at its end.
+
+use mpb_board::Board;
+use mpb_latch::Account;
+
+/// A board that has come to its end, and what its devices pulsed.
+#[derive(Drop)]
+pub struct Ran {
+    pub board: Board,
+    pub account: Account,
+}

@@ -1,0 +1,17 @@
+pub mod Examples
+pub mod Places
+pub mod Frames
+pub mod Acts
+pub mod StepsKeep
+pub mod DevicesKeep
+pub mod TurnsKeep
+pub mod Left
+pub mod DeviceActs
+pub mod Collects
+pub mod Turns
+pub mod Stuck
+pub mod Progress
+pub mod Rounds
+pub mod Ends
+pub mod OneEnd
+pub mod AtTheEnd

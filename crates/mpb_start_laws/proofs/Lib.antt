@@ -1,0 +1,17 @@
+pub mod Lists
+pub mod Processors
+pub mod Calls
+pub mod StartPages
+pub mod PlansStay
+pub mod LifeSteps
+pub mod LivesGoOn
+pub mod UnderWay
+pub mod Told
+pub mod Opening
+pub mod Through
+pub mod StartedOnce
+pub mod BootStays
+pub mod Within
+pub mod Resting
+pub mod Quiet
+pub mod ExampleLemmas
