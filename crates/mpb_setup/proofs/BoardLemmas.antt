@@ -1,17 +1,16 @@
 -- Where there is no fault, the config of a platform, its routes and a script is one of a board.
-use Rattle.std.proofs.Common.{◌≡◌, ◌≢◌, ◌==◌, ℕ, ◌+◌, ◌%◌, ◌<◌, ◌≤◌, Bool, true, false, cond, ◌&&◌, ◌||◌, List, [], ◌∷◌, ◌++◌, length, length-append, map, filter, take, drop, Option, None, Some, option_map, is_some, refl, sym, ap, ◌∙◌, subst, arith}
+use Rattle.std.proofs.Common.{◌≡◌, ◌==◌, ℕ, ◌%◌, ◌<◌, Bool, true, false, cond, ◌&&◌, ◌||◌, List, [], ◌∷◌, ◌++◌, length, length-append, map, filter, None, Some, option_map, is_some, refl, sym, ap, ◌∙◌, arith}
 use Rattle.std.specs.Prelude.{unwrap_or}
 use Rattle.std.specs.List.{AllByRecursion, find}
 use Rattle.std.proofs.lemmas.Bool.{eqb-true, eqb-false, eq-eqb}
 use Rattle.std.proofs.Math.Seq.{take-append_seam, drop-append_seam}
 use Rattle.mpt_spec.specs.declared.entry.Processor.{Processor}
 use Rattle.mpt_route.specs.declared.platform.Platform.{Platform}
-use Rattle.mpt_route.specs.Platform.{is_boot_processor, boot_processor_of}
+use Rattle.mpt_route.specs.Platform.{is_boot_processor}
 use Rattle.mpt_route.specs.Routes.{routes_of}
 use Rattle.mpb_spec.specs.declared.agent.Op.{Op}
 use Rattle.mpb_spec.specs.Numbers.{has, IsAscending}
-use Rattle.mpb_spec.specs.Plan.{Plan, CpuPlan}
-use Rattle.mpb_spec.specs.Configs.{IsCpuPlan, IsConfig, IsOpOn, IsAimed, IsAtPage, is_boot_op, is_script_op, boot_ops}
+use Rattle.mpb_spec.specs.Configs.{IsCpuPlan, IsConfig, IsOpOn, IsAimed, IsAtPage, is_boot_op, is_script_op}
 use Rattle.mpb_spec.proofs.NumberLemmas.{IsAscending-filter}
 use Rattle.mpb_script.specs.declared.script.Script.{Script}
 use Rattle.mpb_script.specs.Values.{HasScriptValues}
@@ -21,7 +20,7 @@ use Rattle.mpb_setup.specs.Faults.{board_fault_of}
 use Rattle.mpb_setup.proofs.ListLemmas.{all-append, all-filter, all-map, all-weaker, all-both, ids-ascending, ids-below, has-id, has-filter, has-some}
 use Rattle.mpb_setup.proofs.FaultLemmas.{HasNoFault, no_fault}
 use Rattle.mpb_setup.proofs.BootLemmas.{IsBootOp, boot_right}
-use Rattle.mpb_setup.proofs.WordLemmas.{IsScriptOp, NamesBelow, names_below, cpu_words_right, devices_right}
+use Rattle.mpb_setup.proofs.WordLemmas.{IsScriptOp, names_below, cpu_words_right, devices_right}
 
 -- the boot processor is an enabled one
 odd : (n : ℕ) → (n % 4 == 3) ≡ true → (n % 2 == 1) ≡ true

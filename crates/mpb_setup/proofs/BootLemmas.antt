@@ -1,7 +1,7 @@
 -- The boot program: each op is one that a boot program may have, it is short, and it starts each other processor.
-use Rattle.std.proofs.Common.{◌≡◌, ◌≢◌, ◌==◌, ℕ, ◌+◌, ◌*◌, ◌%◌, ◌<◌, ◌≤◌, Bool, true, false, not, cond, ◌&&◌, ◌||◌, List, [], ◌∷◌, ◌++◌, length, length-append, map, filter, count_by, sum_by, None, nat_le, refl, sym, ap, ◌∙◌, arith}
+use Rattle.std.proofs.Common.{◌≡◌, ◌==◌, ℕ, ◌+◌, ◌*◌, ◌≤◌, Bool, true, false, not, cond, ◌&&◌, ◌||◌, List, [], ◌∷◌, ◌++◌, length, length-append, map, filter, count_by, None, nat_le, refl, arith}
 use Rattle.std.specs.List.{AllByRecursion, flat_map}
-use Rattle.std.proofs.lemmas.Bool.{eqb-true, eqb-false}
+use Rattle.std.proofs.lemmas.Bool.{eqb-false}
 use Rattle.std.proofs.lemmas.List.Sums.{sum_by-append}
 use Rattle.mpt_spec.specs.declared.entry.Processor.{Processor}
 use Rattle.mpt_route.specs.declared.platform.Platform.{Platform}
@@ -18,7 +18,7 @@ use Rattle.mpb_setup.specs.Board.{enabled_ids, io_ids}
 use Rattle.mpb_setup.specs.Steps.{AreBytes}
 use Rattle.mpb_setup.specs.Faults.{least_double}
 use Rattle.mpb_setup.proofs.ListLemmas.{all-append, all-flat_map, all-weaker, few-bytes}
-use Rattle.mpb_setup.proofs.PinLemmas.{HasPlace, on_places, pins, few_pins, rows_length, rows_writes, rows_ends}
+use Rattle.mpb_setup.proofs.PinLemmas.{HasPlace, on_places, few_pins, rows_length, rows_writes, rows_ends}
 
 -- an op of a boot program at the page, with n I/O APICs
 pub record IsBootOp (n boot page_number : ℕ) (o : Op) : Type 0 where

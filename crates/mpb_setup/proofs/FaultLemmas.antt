@@ -1,5 +1,5 @@
 -- Where there is no fault, none of its causes stands.
-use Rattle.std.proofs.Common.{◌≡◌, ℕ, ◌<◌, ◌≤◌, Bool, true, false, not, List, length, Option, None, Some, option_map, is_some, nat_le, nat_lt, refl, arith}
+use Rattle.std.proofs.Common.{◌≡◌, ℕ, ◌<◌, ◌≤◌, Bool, true, false, not, length, Option, None, Some, option_map, is_some, nat_le, nat_lt, refl, arith}
 use Rattle.mpt_route.specs.declared.platform.Platform.{Platform}
 use Rattle.mpt_route.specs.Platform.{boot_processor_of}
 use Rattle.mpb_spec.specs.declared.fault.BoardError.{BoardError}

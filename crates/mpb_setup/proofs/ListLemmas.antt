@@ -1,12 +1,11 @@
 -- Lists: what holds of each member, of a filter, of joined lists; ranges; distinct bytes.
-use Rattle.std.proofs.Common.{◌≡◌, ◌≢◌, ◌==◌, ℕ, zero, suc, ◌+◌, ◌-◌, ◌*◌, ◌<◌, ◌≤◌, Bool, true, false, cond, ◌||◌, List, [], ◌∷◌, ◌++◌, length, append-nil, get_or, map, filter, sum_by, count_by, Option, None, Some, nat_lt, refl, sym, ap, ◌∙◌, subst, arith, inl, inr, ◌⊎◌}
+use Rattle.std.proofs.Common.{◌≡◌, ◌≢◌, ◌==◌, ℕ, zero, suc, ◌+◌, ◌<◌, ◌≤◌, Bool, true, false, cond, ◌||◌, List, [], ◌∷◌, ◌++◌, length, append-nil, get_or, map, filter, count_by, None, Some, nat_lt, refl, sym, ap, ◌∙◌, subst, arith, inl, inr, ◌⊎◌}
 use Rattle.std.specs.List.{AllByRecursion, range_with_len, list_any, flat_map, find, IsDistinct, Contains}
 use Rattle.std.proofs.lemmas.List.Sums.{sum_by-cons}
 use Rattle.std.proofs.lemmas.Bool.{ne_eqb, eq-eqb, eqb-true, eqb-false, ltb-false, cases_eq}
 use Rattle.std.proofs.lemmas.List.FromFn.{length-range_with_len}
 use Rattle.std.proofs.lemmas.Map.Steps.{length-le_from_distinct_below}
 use Rattle.mpb_spec.specs.Numbers.{has, IsAscending}
-use Rattle.mpb_spec.proofs.NumberLemmas.{IsAscending-filter}
 use Rattle.mpb_setup.specs.Board.{all_ids}
 use Rattle.mpb_setup.specs.Faults.{least_double}
 use Rattle.mpb_setup.specs.Steps.{AreBytes}

@@ -1,8 +1,8 @@
 -- Routed answers: each is on a pin of an I/O APIC that is there, no two on one, so they are at most 96; what their rows write.
-use Rattle.std.proofs.Common.{◌≡◌, ◌==◌, ℕ, zero, suc, ◌+◌, ◌*◌, ◌<◌, ◌≤◌, Bool, true, false, cond, List, [], ◌∷◌, ◌++◌, length, length-append, take, filter, map, count_by, sum_by, Option, Some, slice_get, refl, sym, ap, ◌∙◌, arith}
+use Rattle.std.proofs.Common.{◌≡◌, ◌==◌, ℕ, zero, suc, ◌+◌, ◌*◌, ◌<◌, ◌≤◌, Bool, false, cond, List, [], ◌∷◌, ◌++◌, length, take, filter, map, count_by, Some, slice_get, refl, arith}
 use Rattle.std.specs.List.{AllByRecursion, flat_map, IsDistinct}
 use Rattle.std.proofs.lemmas.Bool.{ne_eqb}
-use Rattle.std.proofs.lemmas.List.Sums.{sum_by-append, sum_by-cons}
+use Rattle.std.proofs.lemmas.List.Sums.{sum_by-append}
 use Rattle.std.proofs.lemmas.List.Quantifiers.{position-Some}
 use Rattle.mpt_spec.specs.declared.entry.IntEntry.{IntEntry}
 use Rattle.mpt_spec.specs.declared.entry.IoApic.{IoApic}

@@ -1,8 +1,8 @@
 -- Where there is no fault, the boot program of the config starts each other processor at the script's page.
-use Rattle.std.proofs.Common.{◌≡◌, ◌≢◌, ◌==◌, ℕ, ◌<◌, Bool, true, false, not, cond, ◌&&◌, ◌||◌, List, [], ◌∷◌, ◌++◌, length, map, filter, take, Option, None, Some, option_map, nat_le, append_assoc, refl, sym, ap, ◌∙◌, subst, arith}
+use Rattle.std.proofs.Common.{◌≡◌, ◌≢◌, ◌==◌, ℕ, Bool, true, false, not, cond, ◌&&◌, ◌||◌, List, [], ◌∷◌, ◌++◌, length, map, filter, Option, None, Some, option_map, nat_le, append_assoc, refl, sym, ap, ◌∙◌, subst}
 use Rattle.std.specs.Prelude.{unwrap_or}
-use Rattle.std.specs.List.{AllByRecursion, flat_map, find, Contains}
-use Rattle.std.proofs.lemmas.Bool.{eqb-true, eq-eqb, ne_eqb}
+use Rattle.std.specs.List.{AllByRecursion, flat_map, find}
+use Rattle.std.proofs.lemmas.Bool.{eqb-true, eq-eqb}
 use Rattle.std.proofs.lemmas.Grind.{flat_map-append}
 use Rattle.std.proofs.Math.Seq.{take-append_seam}
 use Rattle.mpt_spec.specs.declared.entry.Processor.{Processor}
@@ -13,7 +13,7 @@ use Rattle.mpb_spec.specs.declared.agent.Op.{Op}
 use Rattle.mpb_spec.specs.declared.agent.Op.TheVariants as op
 use Rattle.mpb_spec.specs.Numbers.{has}
 use Rattle.mpb_spec.specs.Plan.{CpuPlan}
-use Rattle.mpb_spec.specs.Configs.{IsCpuPlan, IsAtPage, IsFollowedBy, IsStartedBy, IsStartableAt, boot_part}
+use Rattle.mpb_spec.specs.Configs.{IsCpuPlan, IsAtPage, IsStartedBy, IsStartableAt, boot_part}
 use Rattle.mpb_script.specs.declared.script.Script.{Script}
 use Rattle.mpb_script.specs.Values.{HasScriptValues}
 use Rattle.mpb_setup.specs.Boot.{boot_id_of, is_enabled, other_processors, start_ops, row_ops, imcr_ops, boot_program_of}

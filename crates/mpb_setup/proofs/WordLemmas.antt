@@ -1,5 +1,5 @@
 -- The words of a script's programs: each is one that a processor or a device may have, at a place that is there.
-use Rattle.std.proofs.Common.{◌≡◌, ◌==◌, ℕ, suc, ◌+◌, ◌<◌, ◌≤◌, Bool, true, false, cond, ◌&&◌, ◌||◌, List, [], ◌∷◌, map, Option, None, Some, nat_le, option_map, refl, sym, ap, ◌∙◌, arith, inl, inr}
+use Rattle.std.proofs.Common.{◌≡◌, ◌==◌, ℕ, ◌<◌, ◌≤◌, Bool, true, false, cond, ◌&&◌, ◌||◌, List, [], ◌∷◌, None, Some, nat_le, option_map, refl, ap, ◌∙◌, arith, inl, inr}
 use Rattle.std.specs.Prelude.{unwrap_or}
 use Rattle.std.specs.List.{AllByRecursion, list_any, find}
 use Rattle.std.proofs.lemmas.Bool.{eqb-true, eq-eqb, le-leb, cases_lt}
@@ -14,7 +14,7 @@ use Rattle.mpb_script.specs.declared.script.Script.{Script}
 use Rattle.mpb_script.specs.declared.script.CpuScript.{CpuScript}
 use Rattle.mpb_setup.specs.Board.{cpu_words}
 use Rattle.mpb_setup.specs.Faults.{is_op_at, is_word_at, names_place, least_absent_place}
-use Rattle.mpb_setup.proofs.ListLemmas.{none-any, find-none}
+use Rattle.mpb_setup.proofs.ListLemmas.{find-none}
 
 -- no place from n on is named
 abbrev pub NamesBelow : ℕ → List ℕ → Script → Type 0

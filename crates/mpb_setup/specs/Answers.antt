@@ -2,7 +2,7 @@
 --     IsCauseOf p s f            the refusal has its cause in the platform and the script
 --     AnswersConfig result c     the answer is this config
 --     AnswersFault result f      the answer is this fault
-use Rattle.std.specs.Prelude.{◌≡◌, Option, Some, Result, Ok, Err, ⊤}
+use Rattle.std.specs.Prelude.{◌≡◌, Some, Result, Ok, Err, ⊤}
 use Rattle.mpt_route.specs.declared.platform.Platform.{Platform}
 use Rattle.mpb_spec.specs.declared.fault.BoardError.{BoardError}
 use Rattle.mpb_spec.specs.declared.fault.BoardError.TheVariants as fault

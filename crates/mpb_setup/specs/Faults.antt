@@ -1,6 +1,6 @@
 -- Why a platform and a script make no board (this project's own).
 --     board_fault_of p s     the first cause, none where there is a board
-use Rattle.std.specs.Prelude.{ℕ, ◌==◌, ◌&&◌, ◌||◌, not, Bool, true, false, if◌then◌else◌, nat_le, nat_lt, List, length, find, count_by, Option, None, Some, option_map, is_some}
+use Rattle.std.specs.Prelude.{ℕ, ◌==◌, ◌&&◌, ◌||◌, not, Bool, false, if◌then◌else◌, nat_le, nat_lt, List, length, find, count_by, Option, None, Some, option_map, is_some}
 use Rattle.std.specs.Option.{option_or}
 use Rattle.std.specs.List.{range_with_len, list_any}
 use Rattle.mpt_route.specs.declared.platform.Platform.{Platform}

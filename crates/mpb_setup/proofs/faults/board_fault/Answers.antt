@@ -1,4 +1,4 @@
-use Rattle.std.proofs.Common.{◌≡◌, ◌&&◌, ℕ, ◌≤◌, None, length, sym, ap, subst, ◌∙◌, arith}
+use Rattle.std.proofs.Common.{◌≡◌, ◌&&◌, ◌≤◌, None, length, sym, ap, ◌∙◌, arith}
 use Rattle.mpb_spec.specs.Numbers.{has}
 use Rattle.mpb_setup.specs.Board.{enabled_ids, is_present, board_ids}
 use Rattle.mpb_setup.specs.Faults.{least_double}

@@ -1,4 +1,4 @@
-use Rattle.std.proofs.Common.{◌≡◌, ◌==◌, ℕ, ◌<◌, ◌≤◌, count_by, nat_lt, true, sym, ap, ◌∙◌, arith}
+use Rattle.std.proofs.Common.{◌==◌, ℕ, ◌<◌, ◌≤◌, count_by, nat_lt, sym, arith}
 use Rattle.std.proofs.lemmas.Bool.{lt-ltb, le-ltb}
 use Rattle.mpb_setup.proofs.ListLemmas.{first_id, no_id, none-more}
 use Rattle.mpb_setup.proofs.faults.least_double.Goals as goal

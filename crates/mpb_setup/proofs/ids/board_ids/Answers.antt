@@ -1,4 +1,4 @@
-use Rattle.std.proofs.Common.{◌≡◌, ◌&&◌, ℕ, List, filter, ap, sym, ◌∙◌, arith}
+use Rattle.std.proofs.Common.{◌&&◌, ℕ, List, filter, ap, sym, ◌∙◌}
 use Rattle.mpb_spec.specs.Numbers.{has}
 use Rattle.mpb_setup.specs.Board.{all_ids, is_present}
 use Rattle.mpb_setup.proofs.ListLemmas.{filter-grows, filter-stays, filter-all}

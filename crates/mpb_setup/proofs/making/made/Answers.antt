@@ -1,4 +1,4 @@
-use Rattle.std.proofs.Common.{◌≡◌, ◌≤◌, ℕ, Bool, List, length, map, sym, ap, subst, ◌∙◌, refl, arith}
+use Rattle.std.proofs.Common.{◌≡◌, ℕ, Bool, List, length, map, sym, ap, subst, ◌∙◌, arith}
 use Rattle.std.specs.List.{AllByRecursion}
 use Rattle.mpt_route.specs.declared.route.Answer.{Answer}
 use Rattle.mpt_route.specs.Routes.{routes_of}
@@ -7,7 +7,7 @@ use Rattle.mpb_spec.specs.declared.config.DevWord.{DevWord}
 use Rattle.mpb_spec.specs.Plan.{Plan, CpuPlan}
 use Rattle.mpb_spec.specs.Configs.{IsConfig}
 use Rattle.mpb_setup.specs.Boot.{boot_program_of}
-use Rattle.mpb_setup.specs.Board.{board_ids, cpu_plan_of, board_config_of}
+use Rattle.mpb_setup.specs.Board.{board_ids, cpu_plan_of}
 use Rattle.mpb_setup.specs.Steps.{HasPin}
 use Rattle.mpb_setup.proofs.PinLemmas.{have_pins}
 use Rattle.mpb_setup.proofs.FaultLemmas.{no_fault}

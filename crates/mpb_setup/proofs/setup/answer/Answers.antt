@@ -1,4 +1,4 @@
-use Rattle.std.proofs.Common.{◌≡◌, ◌<◌, ◌^◌, ℕ, List, get_or, Fits, w8, arith, None, sym, ap, subst, ◌∙◌}
+use Rattle.std.proofs.Common.{◌≡◌, ◌<◌, ◌^◌, ℕ, List, get_or, Fits, w8, arith, sym, ap, subst, ◌∙◌}
 use Rattle.mpt_route.specs.declared.route.Answer.{Answer}
 use Rattle.mpt_route.specs.Routes.{routes_of}
 use Rattle.mpb_spec.specs.Plan.{Plan, plan_size}
