@@ -1,0 +1,5 @@
+pub mod Boot
+pub mod Board
+pub mod Faults
+pub mod Answers
+pub mod Steps

@@ -1,0 +1,14 @@
+//! The config of a board from a platform, its routes and a script: what the boot processor does before
+//! its words, who is on the board, and why there may be no board (MultiProcessor Specification 1.4,
+//! sections 3.6.2.1 and B.4).
+#![tactic(auto)]
+
+mod boot;
+mod faults;
+mod ids;
+mod making;
+mod programs;
+mod setup;
+
+pub use boot::boot_ops;
+pub use setup::config;
