@@ -44,12 +44,13 @@ lines-of_found all (p ∷ ps) found =
     ∙ ap (λ (t : List ℕ). processor_line p ++ t) (lines-of_found all ps found.1)
 
 -- the processors of a board, by the ids of its config
-pub found_cpus : (c : Plan) (journal : List Entry) → IsConfig c
-    → flat_map (λ (p : CpuPlan). found_cpu p.id (processor_of p.id (final_state_of c journal).processors)) c.cpus ≡ concat (map processor_line (final_state_of c journal).processors)
-found_cpus c journal config =
+pub found_cpus : (c : Plan) (journal : List Entry) (cpus : List CpuPlan) → cpus ≡ c.cpus → IsConfig c
+    → flat_map (λ (p : CpuPlan). found_cpu p.id (processor_of p.id (final_state_of c journal).processors)) cpus ≡ concat (map processor_line (final_state_of c journal).processors)
+found_cpus c journal cpus same config =
     let all = (final_state_of c journal).processors in
     let stay : ids all ≡ map (λ (p : CpuPlan). p.id) c.cpus = ids_stay c journal in
-    sym (flat_map-map (λ i. found_cpu i (processor_of i all)) (λ (p : CpuPlan). p.id) c.cpus)
+    ap (λ (ps : List CpuPlan). flat_map (λ (p : CpuPlan). found_cpu p.id (processor_of p.id all)) ps) same
+    ∙ sym (flat_map-map (λ i. found_cpu i (processor_of i all)) (λ (p : CpuPlan). p.id) c.cpus)
     ∙ ap (λ (is : List ℕ). flat_map (λ i. found_cpu i (processor_of i all)) is) (sym stay)
     ∙ lines-of_found all all (all-found all (subst IsAscending (sym stay) config.ascending))
 

@@ -71,19 +71,23 @@ all-asked : (n a m : ℕ) (xs : List ℕ) → a + n ≡ m → IsAscending xs →
 all-asked zero a m [] sum ascending from below = refl
 all-asked zero a m (x ∷ xs) sum ascending from below = let le : a ≤ x = from.0 in let lt : x < m = below.0 in absurd (omega arith)
 all-asked (suc n) a m [] sum ascending from below = all-asked n (a + 1) m [] (omega arith) tt tt tt
-all-asked (suc n) a m (x ∷ xs) sum ascending from below = go (x == a) refl where
-  go : (b : Bool) → (x == a) ≡ b
-      → cond {A = List ℕ} (b || has a xs) (a ∷ filter (λ v. has v (x ∷ xs)) (range_with_len (a + 1) n)) (filter (λ v. has v (x ∷ xs)) (range_with_len (a + 1) n)) ≡ x ∷ xs
-  go true e =
-      let same : x ≡ a = eqb-true x a e in
-      ap (λ (t : List ℕ). a ∷ t) (asked-behind x xs (a + 1) n (omega arith) ∙ all-asked n (a + 1) m xs (omega arith) ascending.1 (behind-first a x xs (omega arith) ascending.0) below.1)
-      ∙ ap (λ (k : ℕ). k ∷ xs) (sym same)
-  go false e =
-      let least : a ≤ x = from.0 in
-      let other : x ≢ a = eqb-false x a e in
-      let lesser : a < x = omega arith in
-      let none : has a xs ≡ false = none-below a xs (weaker a x xs least ascending.0) in
-      rw none (all-asked n (a + 1) m (x ∷ xs) (omega arith) ascending (omega arith, behind-first a x xs least ascending.0) below)
+all-asked (suc n) a m (x ∷ xs) sum ascending from below =
+    go (x == a) refl (λ f. all-asked n (a + 1) m xs (omega arith) ascending.1 f below.1) (λ f. all-asked n (a + 1) m (x ∷ xs) (omega arith) ascending f below)
+  where
+    go : (b : Bool) → (x == a) ≡ b
+        → (AllByRecursion (λ v. a + 1 ≤ v) xs → filter (λ v. has v xs) (range_with_len (a + 1) n) ≡ xs)
+        → (AllByRecursion (λ v. a + 1 ≤ v) (x ∷ xs) → filter (λ v. has v (x ∷ xs)) (range_with_len (a + 1) n) ≡ x ∷ xs)
+        → cond {A = List ℕ} (b || has a xs) (a ∷ filter (λ v. has v (x ∷ xs)) (range_with_len (a + 1) n)) (filter (λ v. has v (x ∷ xs)) (range_with_len (a + 1) n)) ≡ x ∷ xs
+    go true e rest all =
+        let same : x ≡ a = eqb-true x a e in
+        ap (λ (t : List ℕ). a ∷ t) (asked-behind x xs (a + 1) n (omega arith) ∙ rest (behind-first a x xs (omega arith) ascending.0))
+        ∙ ap (λ (k : ℕ). k ∷ xs) (sym same)
+    go false e rest all =
+        let least : a ≤ x = from.0 in
+        let other : x ≢ a = eqb-false x a e in
+        let lesser : a < x = omega arith in
+        let none : has a xs ≡ false = none-below a xs (weaker a x xs least ascending.0) in
+        rw none (all (omega arith, behind-first a x xs least ascending.0))
 
 all-from-none : (ys : List ℕ) → AllByRecursion (λ v. 0 ≤ v) ys
 all-from-none [] = tt

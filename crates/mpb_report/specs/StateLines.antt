@@ -52,11 +52,13 @@ abbrev pub vectors_text : List ℕ → List ℕ
 vectors_text [] = codes "-"
 vectors_text (v ∷ vs) = hex 2 v ++ flat_map further_vector vs
 
--- the line of a processor: its id, its life, its task priority, and the vectors that are requested, in service and level-triggered
+-- the vectors of a local APIC that are requested, in service and level-triggered
+abbrev pub registers_text : LocalApic → List ℕ
+registers_text a = concat (codes " irr " ∷ vectors_text (members a.irr) ∷ codes " isr " ∷ vectors_text (members a.isr) ∷ codes " tmr " ∷ vectors_text (members a.tmr) ∷ [])
+
+-- the line of a processor: its id, its life, its task priority, and its vectors
 abbrev pub cpu_line : ℕ → Life → LocalApic → List ℕ
-cpu_line id l a =
-    line (codes "state cpu " ∷ hex 2 id ∷ codes " " ∷ life_text l ∷ codes " tpr " ∷ hex 2 a.tpr
-    ∷ codes " irr " ∷ vectors_text (members a.irr) ∷ codes " isr " ∷ vectors_text (members a.isr) ∷ codes " tmr " ∷ vectors_text (members a.tmr) ∷ [])
+cpu_line id l a = line (codes "state cpu " ∷ hex 2 id ∷ codes " " ∷ life_text l ∷ codes " tpr " ∷ hex 2 a.tpr ∷ registers_text a ∷ [])
 
 -- that of a processor of a board
 abbrev pub processor_line : Processor → List ℕ

@@ -11,7 +11,6 @@ use mpt_listing::{Part, push_text};
 use std::alloc::AllocError;
 
 /// Writes the lines of the entries, numbered from 0.
-#[tactic(auto, using(crate::proofs::LineLemmas::numbered_more))]
 pub(crate) fn push_entry_lines(out: &mut Vec<u8>, journal: &[Entry]) -> Result<(), AllocError>
     ensures { OnOk result (out.new.items ≡ out.old.items ++ concat (numbered entry_line 0 journal.now)) }
 {

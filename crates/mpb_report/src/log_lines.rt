@@ -11,7 +11,6 @@ use mpt_listing::{Part, push_text};
 use std::alloc::AllocError;
 
 /// Writes the lines of the logs, numbered from 0.
-#[tactic(auto, using(crate::proofs::LineLemmas::numbered_more, crate::proofs::LineLemmas::numbered_map))]
 pub(crate) fn push_log_lines(
     out: &mut Vec<u8>,
     logs: &[Vec<(Pulse, Hit)>],

@@ -5,7 +5,7 @@ ghost use Rattle.std.specs.List.{concat};
 ghost use Rattle.mpb_spec.specs.State.{processor_of};
 ghost use Rattle.mpb_board.specs.BoardView.{state_of};
 ghost use Rattle.mpb_report.specs.Numbered.{numbered};
-ghost use Rattle.mpb_report.specs.StateLines.{imcr_text, imcr_line, life_text, cpu_line, processor_line, io_line, place_line, state_lines};
+ghost use Rattle.mpb_report.specs.StateLines.{imcr_text, imcr_line, life_text, registers_text, cpu_line, processor_line, io_line, place_line, state_lines};
 ghost use Rattle.mpb_report.specs.Found.{found_cpu, found_io};
 
 use crate::parts::push_parts;
@@ -85,13 +85,21 @@ fn push_cpu_line(out: &mut Vec<u8>, id: u8, life: Life, lapic: &Lapic) -> Result
         out,
         &[Part::Text(b" tpr "), Part::Hex(2, lapic.tpr() as u64)],
     )?;
+    push_registers(out, lapic)?;
+    push_text(out, b"\n")?;
+    Ok(())
+}
+
+// the vectors that are requested, in service and level-triggered
+fn push_registers(out: &mut Vec<u8>, lapic: &Lapic) -> Result<(), AllocError>
+    ensures { OnOk result (out.new.items ≡ out.old.items ++ registers_text lapic.now) }
+{
     push_text(out, b" irr ")?;
     push_register(out, lapic, Register::Irr)?;
     push_text(out, b" isr ")?;
     push_register(out, lapic, Register::Isr)?;
     push_text(out, b" tmr ")?;
     push_register(out, lapic, Register::Tmr)?;
-    push_text(out, b"\n")?;
     Ok(())
 }
 
@@ -110,7 +118,6 @@ fn push_life(out: &mut Vec<u8>, life: Life) -> Result<(), AllocError>
 }
 
 // the lines of all I/O APICs, by place
-#[tactic(auto, using(crate::proofs::FoundLemmas::found_more))]
 fn push_io_lines(out: &mut Vec<u8>, board: &Board) -> Result<(), AllocError>
     ensures { OnOk result (out.new.items ≡ out.old.items ++ concat (numbered place_line 0 (state_of board.now).places)) }
 {
