@@ -119,6 +119,7 @@ fn each_outcome_has_its_text(rt: HostRuntime) -> Result<(), Fail> {
 fn eight_outcomes_stand_in_one_line(rt: HostRuntime) -> Result<(), Fail> {
     let mut outcomes = ArrayVec::new();
     for at in 0..8u8 {
+        assert!(rt; outcomes.len() < 8);
         outcomes.push(Outcome {
             at,
             what: What::Set,
