@@ -1,5 +1,5 @@
 -- The lines of the processors that are found by their ids, and of the I/O APICs that are found by their places, are those of all.
-use Rattle.std.proofs.Common.{◌≡◌, ◌==◌, ℕ, ◌+◌, ◌<◌, true, false, List, [], ◌∷◌, ◌++◌, length, take, map, get_or, Some, slice_get, refl, sym, ap, ◌∙◌, subst, arith}
+use Rattle.std.proofs.Common.{◌≡◌, ◌==◌, ℕ, ◌+◌, ◌<◌, true, false, List, [], ◌∷◌, ◌++◌, length, take, map, Some, slice_get, refl, sym, ap, ◌∙◌, subst, arith}
 use Rattle.std.proofs.lemmas.Bool.{eq-eqb, ne_eqb}
 use Rattle.std.proofs.lemmas.List.Folds.{flat_map-map}
 use Rattle.std.specs.List.{AllByRecursion, concat, flat_map}
@@ -10,7 +10,7 @@ use Rattle.mpb_spec.specs.Configs.{IsConfig}
 use Rattle.mpb_spec.specs.State.{Processor, Place, processor_of}
 use Rattle.mpb_spec.specs.Journal.{final_state_of}
 use Rattle.mpb_spec.proofs.StateLemmas.{got_at}
-use Rattle.mpb_laws.proofs.PartsStay.{ids_stay, places_stay}
+use Rattle.mpb_laws.proofs.PartsStay.{ids_stay}
 use Rattle.mpb_report.specs.Numbered.{numbered}
 use Rattle.mpb_report.specs.StateLines.{processor_line, place_line}
 use Rattle.mpb_report.specs.Found.{found_cpu, found_io}

@@ -1,4 +1,4 @@
-use Rattle.std.proofs.Common.{length, ◌∷◌, [], ◌++◌}
+use Rattle.std.proofs.Common.{length, ◌++◌}
 use Rattle.std.specs.List.{concat}
 use Rattle.mpb_report.specs.Numbered.{numbered}
 use Rattle.mpb_report.specs.EntryLines.{entry_line}
