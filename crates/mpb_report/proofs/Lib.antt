@@ -1,0 +1,4 @@
+pub mod LineLemmas
+pub mod PartLemmas
+pub mod FoundLemmas
+pub mod MemberLemmas

@@ -1,0 +1,157 @@
+//! The lines of a board's state.
+
+ghost use Rattle.std.specs.Prelude.{◌≡◌, ◌≤◌, ◌++◌, OnOk, map, slice_get};
+ghost use Rattle.std.specs.List.{concat};
+ghost use Rattle.mpb_spec.specs.State.{processor_of};
+ghost use Rattle.mpb_board.specs.BoardView.{state_of};
+ghost use Rattle.mpb_report.specs.Numbered.{numbered};
+ghost use Rattle.mpb_report.specs.StateLines.{imcr_text, imcr_line, life_text, registers_text, cpu_line, processor_line, io_line, place_line, state_lines};
+ghost use Rattle.mpb_report.specs.Found.{found_cpu, found_io};
+
+use crate::parts::push_parts;
+use crate::vectors::{Register, push_register};
+use mpb_board::{Board, Imcr, Life};
+use mpb_ioapic::IoApic;
+use mpb_lapic::Lapic;
+use mpt_listing::{Part, push_line, push_text};
+use std::alloc::AllocError;
+
+/// Writes the lines of the state that the board's journal leaves.
+pub(crate) fn push_state_lines(out: &mut Vec<u8>, board: &Board) -> Result<(), AllocError>
+    ensures { OnOk result (out.new.items ≡ out.old.items ++ concat (state_lines (state_of board.now))) }
+{
+    push_imcr_line(out, board.imcr())?;
+    push_cpu_lines(out, board)?;
+    push_io_lines(out, board)?;
+    Ok(())
+}
+
+fn push_imcr_line(out: &mut Vec<u8>, imcr: Imcr) -> Result<(), AllocError>
+    ensures { OnOk result (out.new.items ≡ out.old.items ++ imcr_line imcr) }
+{
+    push_line(
+        out,
+        &[Part::Text(b"state imcr "), Part::Text(imcr_text(imcr))],
+    )
+}
+
+fn imcr_text(imcr: Imcr) -> &'static [u8]
+    ensures { result.now ≡ imcr_text imcr }
+{
+    match imcr {
+        Imcr::Absent => b"none",
+        Imcr::Pic => b"pic",
+        Imcr::Apic => b"apic",
+    }
+}
+
+// the lines of all processors, ascending by id
+fn push_cpu_lines(out: &mut Vec<u8>, board: &Board) -> Result<(), AllocError>
+    ensures { OnOk result (out.new.items ≡ out.old.items ++ concat (map processor_line (state_of board.now).processors)) }
+{
+    let cpus = board.config().cpus.as_slice();
+    for cpu in cpus {
+        push_found_cpu(out, board, cpu.id)?;
+    }
+    Ok(())
+}
+
+// the line of the processor with this id
+fn push_found_cpu(out: &mut Vec<u8>, board: &Board, id: u8) -> Result<(), AllocError>
+    ensures { OnOk result (out.new.items ≡ out.old.items ++ found_cpu id (processor_of id (state_of board.now).processors)) }
+{
+    let Some(life) = board.life(id) else {
+        return Ok(());
+    };
+    let Some(lapic) = board.lapic(id) else {
+        return Ok(());
+    };
+    push_cpu_line(out, id, life, lapic)
+}
+
+fn push_cpu_line(out: &mut Vec<u8>, id: u8, life: Life, lapic: &Lapic) -> Result<(), AllocError>
+    ensures { OnOk result (out.new.items ≡ out.old.items ++ cpu_line id life lapic.now) }
+{
+    push_parts(
+        out,
+        &[
+            Part::Text(b"state cpu "),
+            Part::Hex(2, id as u64),
+            Part::Text(b" "),
+        ],
+    )?;
+    push_life(out, life)?;
+    push_parts(
+        out,
+        &[Part::Text(b" tpr "), Part::Hex(2, lapic.tpr() as u64)],
+    )?;
+    push_registers(out, lapic)?;
+    push_text(out, b"\n")?;
+    Ok(())
+}
+
+// the vectors that are requested, in service and level-triggered
+fn push_registers(out: &mut Vec<u8>, lapic: &Lapic) -> Result<(), AllocError>
+    ensures { OnOk result (out.new.items ≡ out.old.items ++ registers_text lapic.now) }
+{
+    push_text(out, b" irr ")?;
+    push_register(out, lapic, Register::Irr)?;
+    push_text(out, b" isr ")?;
+    push_register(out, lapic, Register::Isr)?;
+    push_text(out, b" tmr ")?;
+    push_register(out, lapic, Register::Tmr)?;
+    Ok(())
+}
+
+fn push_life(out: &mut Vec<u8>, life: Life) -> Result<(), AllocError>
+    ensures { OnOk result (out.new.items ≡ out.old.items ++ life_text life) }
+{
+    match life {
+        Life::Asleep => push_text(out, b"asleep"),
+        Life::Waiting => push_text(out, b"waiting"),
+        Life::Started(page) => push_parts(
+            out,
+            &[Part::Text(b"started."), Part::Hex(2, page as u64)],
+        ),
+        Life::First => push_text(out, b"first"),
+    }
+}
+
+// the lines of all I/O APICs, by place
+fn push_io_lines(out: &mut Vec<u8>, board: &Board) -> Result<(), AllocError>
+    ensures { OnOk result (out.new.items ≡ out.old.items ++ concat (numbered place_line 0 (state_of board.now).places)) }
+{
+    let count = board.config().ios.len();
+    for place in 0..count {
+        push_found_io(out, board, place as u8)?;
+    }
+    Ok(())
+}
+
+// the line of the I/O APIC at this place
+fn push_found_io(out: &mut Vec<u8>, board: &Board, place: u8) -> Result<(), AllocError>
+    ensures { OnOk result (out.new.items ≡ out.old.items ++ found_io place (slice_get (state_of board.now).places place)) }
+{
+    match board.io(place) {
+        Some(chip) => push_io_line(out, place, chip),
+        None => Ok(()),
+    }
+}
+
+fn push_io_line(out: &mut Vec<u8>, place: u8, chip: &IoApic) -> Result<(), AllocError>
+    ensures { OnOk result (out.new.items ≡ out.old.items ++ io_line place chip.now.pins) }
+{
+    push_line(
+        out,
+        &[
+            Part::Text(b"state io "),
+            Part::Decimal(place as u64),
+            Part::Text(b" line "),
+            Part::Hex(6, chip.line() as u64),
+            Part::Text(b" due "),
+            Part::Hex(6, chip.due() as u64),
+            Part::Text(b" remote "),
+            Part::Hex(6, chip.remote() as u64),
+        ],
+    )
+}

@@ -1,0 +1,112 @@
+//! The boards of the rows.
+
+ghost use Rattle.std.specs.Prelude.{◌<◌, ◌^◌, IfOk, IfSome};
+ghost use Rattle.mpb_spec.specs.Plan.{plan_size};
+
+use mpb_board::{Config, CpuConfig, DevWord, Op};
+use mpb_config::config_of;
+use std::alloc::{AllocError, Global};
+
+/// Two processors of version 10h, ids 0 (boot) and 1, and nothing else. The boot program starts
+/// processor 1 at page 9Fh.
+pub fn two_processors(alloc: Global) -> Result<Option<Config>, AllocError>
+    ensures { IfOk result (λ made. IfSome made (λ c. plan_size c < 2 ^ 32)) }
+{
+    let program = [
+        Op::Init(1),
+        Op::Pause(10_000),
+        Op::Startup(1, 0x9F),
+        Op::Pause(200),
+        Op::Startup(1, 0x9F),
+        Op::Pause(200),
+        Op::Check(1),
+    ]
+    .to_vec(alloc)?;
+    let mut cpus = Vec::new(alloc);
+    cpus.push(CpuConfig {
+        id: 0,
+        version: 0x10,
+        program,
+    })?;
+    cpus.push(CpuConfig {
+        id: 1,
+        version: 0x10,
+        program: Vec::new(alloc),
+    })?;
+    Ok(config_of(0x9F, 0, 7, cpus, Vec::new(alloc), false, Vec::new(alloc)))
+}
+
+/// One processor of version 10h and one I/O APIC of id 1, whose pin 1 the boot program unmasks with
+/// vector 21h as an edge pin; then the processor takes an interrupt and ends it. Three devices pulse the pin
+/// once each.
+pub fn three_pulses(alloc: Global) -> Result<Config, AllocError>
+    ensures { IfOk result (λ c. plan_size c < 2 ^ 32) }
+{
+    let program = [
+        Op::IoSel(0, 0x13),
+        Op::IoWin(0, 0),
+        Op::IoSel(0, 0x12),
+        Op::IoWin(0, 0x21),
+        Op::Take,
+        Op::Eoi,
+    ]
+    .to_vec(alloc)?;
+    let mut cpus = Vec::new(alloc);
+    cpus.push(CpuConfig {
+        id: 0,
+        version: 0x10,
+        program,
+    })?;
+    let mut devices = Vec::new(alloc);
+    devices.push([DevWord::Pulse(0, 1)].to_vec(alloc)?)?;
+    devices.push([DevWord::Pulse(0, 1)].to_vec(alloc)?)?;
+    devices.push([DevWord::Pulse(0, 1)].to_vec(alloc)?)?;
+    Ok(Config {
+        boot: 0,
+        boot_len: 4,
+        cpus,
+        ios: [1].to_vec(alloc)?,
+        imcr: false,
+        devices,
+    })
+}
+
+/// Processors 2 (boot) and 5, an interrupt mode register, and two I/O APICs. The boot program unmasks pin
+/// 16 of the second one with vector 30h as a level pin; then the processor sends itself vectors 41h and 52h, sets
+/// its priority and takes one. One device asserts the pin's line.
+pub fn one_level(alloc: Global) -> Result<Config, AllocError>
+    ensures { IfOk result (λ c. plan_size c < 2 ^ 32) }
+{
+    let program = [
+        Op::IoSel(1, 0x31),
+        Op::IoWin(1, 0x0200_0000),
+        Op::IoSel(1, 0x30),
+        Op::IoWin(1, 0xA030),
+        Op::Ipi(2, 0x41),
+        Op::Ipi(2, 0x52),
+        Op::Tpr(0x2C),
+        Op::Take,
+    ]
+    .to_vec(alloc)?;
+    let mut cpus = Vec::new(alloc);
+    cpus.push(CpuConfig {
+        id: 2,
+        version: 0x10,
+        program,
+    })?;
+    cpus.push(CpuConfig {
+        id: 5,
+        version: 0x10,
+        program: Vec::new(alloc),
+    })?;
+    let mut devices = Vec::new(alloc);
+    devices.push([DevWord::High(1, 16)].to_vec(alloc)?)?;
+    Ok(Config {
+        boot: 2,
+        boot_len: 4,
+        cpus,
+        ios: [6, 7].to_vec(alloc)?,
+        imcr: true,
+        devices,
+    })
+}
