@@ -1,0 +1,11 @@
+//! The boot of the board that tables and a script describe, and its report (this project's own; the start
+//! of processors is that of MultiProcessor Specification 1.4, appendix B.4).
+#![tactic(auto)]
+
+mod lines;
+mod reports;
+mod setup;
+
+pub use lines::{board_fault_line, script_fault_line};
+pub use reports::{boot_in_turns, trace};
+pub use setup::board;
