@@ -28,6 +28,8 @@ refused_not_absent told (Image name) status text (inl h) three = omega (arith, t
 refused_not_absent told (Image name) status text (inr h) three = omega (arith, three, h.0)
 refused_not_absent told (Listing name) status text (inl h) three = omega (arith, three, h.0)
 refused_not_absent told (Listing name) status text (inr h) three = omega (arith, three, h.0)
+refused_not_absent told (Script image name) status text (inl h) three = omega (arith, three, h.0)
+refused_not_absent told (Script image name) status text (inr h) three = omega (arith, three, h.0)
 
 -- where the walk ends at the file that gives the form its tables, that is due
 ending_due : (told : Option Files) (before after : Outside) (form : Form) (e : Ending) → IsEnding told (shelves before.misses after.misses before.faults after.faults) (source_of form) e
@@ -57,6 +59,7 @@ pub IsEnding-given : (told : Option Files) (before after : Outside) (file : Name
 IsEnding-given None before after file tables gives kept = (tt, kept)
 IsEnding-given (Some files) before after (Image name) tables gives kept = (read_there files (Image name) (λ image. Describes image tables) gives, kept)
 IsEnding-given (Some files) before after (Listing name) tables gives kept = (read_there files (Listing name) (IsListingOf tables) gives.1, kept)
+IsEnding-given (Some files) before after (Script image name) tables gives kept = GAP
 
 -- no answer to tables has the status of an absent file
 not_absent : (form : Form) (tables : Tables) (status : ℕ) (text : List ℕ) → IsAnswerTo form tables status text → status ≡ 3 → ⊥

@@ -2,12 +2,12 @@
 
 ghost use Rattle.std.specs.Prelude.{◌≡◌, ◌<◌, ◌^◌, [], IfOk};
 ghost use Rattle.mpt_spec.specs.Canonical.{IsWellFormed, FitsInImage};
-ghost use Rattle.mptab_calls.specs.Forms.{Show, Audit, Canon, Build, Route, form_of};
+ghost use Rattle.mptab_calls.specs.Forms.{Show, Audit, Canon, Build, Route, form_of_tables};
 ghost use Rattle.mptab_calls.specs.Commands.{IsAnswerTo, IsReadyFor};
 
 use crate::refusals::unfit;
 use crate::status::{DONE, FINDINGS};
-use crate::words::Command;
+use crate::words::TablesCommand;
 use mpt_answers::{print_findings, print_routes};
 use mpt_audit::audit;
 use mpt_base::NoMemory;
@@ -25,18 +25,18 @@ pub(crate) struct Answer {
 }
 
 /// Status and text that the tables give the form.
-pub(crate) fn answer_to(alloc: Global, command: Command, tables: Tables) -> Result<Answer, NoMemory>
+pub(crate) fn answer_to(alloc: Global, command: TablesCommand, tables: Tables) -> Result<Answer, NoMemory>
     requires well_formed { IsWellFormed tables }
     requires low { tables.at < 2 ^ 32 }
-    requires ready { IsReadyFor (form_of command) tables }
-    ensures { IfOk result (λ answer. IsAnswerTo (form_of command.entry) tables answer.status answer.text.items) }
+    requires ready { IsReadyFor (form_of_tables command) tables }
+    ensures { IfOk result (λ answer. IsAnswerTo (form_of_tables command.entry) tables answer.status answer.text.items) }
 {
     match command {
-        Command::Show(_) => shown(alloc, &tables),
-        Command::Audit(_) => audited(alloc, &tables),
-        Command::Canon(_) => canonical(alloc, tables),
-        Command::Build(_) => built(alloc, &tables),
-        Command::Route(_, elcr) => routed(alloc, &tables, elcr),
+        TablesCommand::Show(_) => shown(alloc, &tables),
+        TablesCommand::Audit(_) => audited(alloc, &tables),
+        TablesCommand::Canon(_) => canonical(alloc, tables),
+        TablesCommand::Build(_) => built(alloc, &tables),
+        TablesCommand::Route(_, elcr) => routed(alloc, &tables, elcr),
     }
 }
 

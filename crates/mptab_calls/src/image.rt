@@ -24,6 +24,7 @@ pub(crate) fn take_image<S: Shelf>(
     shelf: &mut S,
 ) -> Result<Tables, Ending>
     ensures files_stay { S.files shelf.new ≡ S.files shelf.old }
+    ensures misses { S.misses shelf.old ≤ S.misses shelf.new }
     ensures unfailed { IfOk result (λ t. S.faults shelf.new ≡ S.faults shelf.old) }
     ensures tables { IfOk result (λ t. GivesTables (S.files shelf.old) (Image name.now) t) }
     ensures well_formed { IfOk result IsWellFormed }
@@ -51,6 +52,7 @@ fn image_of_size<S: Shelf>(
     requires told { IsSizeTold (S.files shelf.old) name.now (Some size) }
     requires within { size ≤ limit_of (Image name.now) }
     ensures files_stay { S.files shelf.new ≡ S.files shelf.old }
+    ensures misses { S.misses shelf.old ≤ S.misses shelf.new }
     ensures unfailed { IfOk result (λ t. S.faults shelf.new ≡ S.faults shelf.old) }
     ensures tables { IfOk result (λ t. GivesTables (S.files shelf.old) (Image name.now) t) }
     ensures well_formed { IfOk result IsWellFormed }

@@ -11,6 +11,8 @@ mod giving;
 mod image;
 mod listing;
 mod refusals;
+mod report;
+mod script;
 mod source;
 mod status;
 mod words;

@@ -4,10 +4,14 @@ ghost use Rattle.std.specs.Prelude.{◌≡◌, map, IfOk};
 ghost use Rattle.mpt_base.specs.Reason.{reason_number};
 ghost use Rattle.mpt_listing.specs.Listing.{line};
 ghost use Rattle.mpt_listing.specs.Part.{part_text};
+ghost use Rattle.mpb_boot.specs.Lines.{script_fault_line, board_fault_line};
 ghost use Rattle.mptab_calls.specs.Commands.{no_pointer_line, reason_name, fault_line, line_why_name, bad_line_line, unfit_line};
 
 use crate::answer::Answer;
-use crate::status::{NO_POINTER, NOT_LISTED, REFUSED};
+use crate::status::{NO_BOARD, NO_POINTER, NOT_LISTED, REFUSED};
+use mpb_boot::{board_fault_line, script_fault_line};
+use mpb_script::ScriptFault;
+use mpb_spec::BoardError;
 use mpt_base::{Fault, NoMemory, Reason};
 use mpt_listing::{Part, push_line};
 use mpt_parse::LineWhy;
@@ -78,6 +82,28 @@ pub(crate) fn unfit(alloc: Global, size: u64) -> Result<Answer, NoMemory>
         NOT_LISTED,
         &[Part::Text(b"mptab: does not fit "), Part::Decimal(size)],
     )
+}
+
+/// The script has this first fault.
+pub(crate) fn bad_script(alloc: Global, fault: ScriptFault) -> Result<Answer, NoMemory>
+    ensures { IfOk result (λ a. (a.status ≡ 8) × (a.text.items ≡ script_fault_line fault)) }
+{
+    let text = script_fault_line(alloc, fault)?;
+    Ok(Answer {
+        status: NOT_LISTED,
+        text,
+    })
+}
+
+/// Tables and script describe no board, for this reason.
+pub(crate) fn bad_board(alloc: Global, error: BoardError) -> Result<Answer, NoMemory>
+    ensures { IfOk result (λ a. (a.status ≡ 11) × (a.text.items ≡ board_fault_line error)) }
+{
+    let text = board_fault_line(alloc, error)?;
+    Ok(Answer {
+        status: NO_BOARD,
+        text,
+    })
 }
 
 fn line_why_name(why: LineWhy) -> &'static [u8]

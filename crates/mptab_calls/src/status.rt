@@ -16,9 +16,11 @@ pub(crate) const CANNOT_WRITE: u8 = 5;
 pub(crate) const NO_POINTER: u8 = 6;
 /// The tables are refused.
 pub(crate) const REFUSED: u8 = 7;
-/// The listing is refused, or the tables don't fit.
+/// A listing or a script is refused, or the tables don't fit.
 pub(crate) const NOT_LISTED: u8 = 8;
 /// Memory ran out.
 pub(crate) const NO_MEMORY: u8 = 9;
 /// A file passes its limit.
 pub(crate) const TOO_LARGE: u8 = 10;
+/// Tables and script describe no board.
+pub(crate) const NO_BOARD: u8 = 11;

@@ -1,7 +1,7 @@
 //! The words of a command line, and the form that they are.
 
-ghost use Rattle.std.specs.Prelude.{◌≡◌, ◌∷◌, [], MatchOption};
-ghost use Rattle.mptab_calls.specs.Forms.{IsForm, IsAny, form_of, source_of, name_of, named_of};
+ghost use Rattle.std.specs.Prelude.{◌≡◌, ◌∷◌, [], codes, MatchOption};
+ghost use Rattle.mptab_calls.specs.Forms.{IsForm, IsAny, form_of, form_of_tables, source_of, name_of, named_of};
 ghost use Rattle.mptab_calls.specs.Walk.{IsNoForm, texts_of};
 
 use mpt_answers::read_elcr;
@@ -9,6 +9,32 @@ use mpt_answers::read_elcr;
 /// The listed forms, with the names of their files as they stand.
 #[derive(Clone, Copy)]
 pub(crate) enum Command<'a> {
+    /// One over tables.
+    OfTables(TablesCommand<'a>),
+    /// One over the board of tables and a script.
+    OfBoard(BoardCommand<'a>),
+}
+
+/// The forms over a board, each by its way to the report: `trace IMAGE SCRIPT`, `boot IMAGE SCRIPT`.
+#[derive(Clone, Copy)]
+pub(crate) struct BoardCommand<'a> {
+    pub(crate) way: Way,
+    pub(crate) image: &'a str,
+    pub(crate) script: &'a str,
+}
+
+/// How a board comes to its end.
+#[derive(Clone, Copy)]
+pub(crate) enum Way {
+    /// By the round robin.
+    Trace,
+    /// By any boot.
+    Boot,
+}
+
+/// The forms over tables.
+#[derive(Clone, Copy)]
+pub(crate) enum TablesCommand<'a> {
     /// `show IMAGE`
     Show(&'a str),
     /// `audit IMAGE`
@@ -28,7 +54,7 @@ pub(crate) fn command_of(words: &[String]) -> Option<Command>
 {
     match words {
         [word, name] => of_one_file(word.as_str(), name.as_str()),
-        [word, name, elcr] => of_image_and_elcr(word.as_str(), name.as_str(), elcr.as_str()),
+        [word, name, third] => of_image_and_word(word.as_str(), name.as_str(), third.as_str()),
         _ => None,
     }
 }
@@ -39,28 +65,49 @@ fn of_one_file<'a>(word: &str, name: &'a str) -> Option<Command<'a>>
         (λ command. IsForm (form_of command) (word.now ∷ name.now ∷ [])) }
 {
     if word == "show" {
-        Some(Command::Show(name))
+        Some(Command::OfTables(TablesCommand::Show(name)))
     } else if word == "audit" {
-        Some(Command::Audit(name))
+        Some(Command::OfTables(TablesCommand::Audit(name)))
     } else if word == "canon" {
-        Some(Command::Canon(name))
+        Some(Command::OfTables(TablesCommand::Canon(name)))
     } else if word == "build" {
-        Some(Command::Build(name))
+        Some(Command::OfTables(TablesCommand::Build(name)))
     } else {
         None
     }
 }
 
-// a command over an image and the ELCR
-fn of_image_and_elcr<'a>(word: &str, name: &'a str, elcr: &str) -> Option<Command<'a>>
-    ensures { MatchOption result (IsNoForm IsAny (word.now ∷ name.now ∷ elcr.now ∷ []))
-        (λ command. IsForm (form_of command) (word.now ∷ name.now ∷ elcr.now ∷ [])) }
+// a command over an image and the ELCR, or over an image and a script
+fn of_image_and_word<'a>(word: &str, name: &'a str, third: &'a str) -> Option<Command<'a>>
+    ensures { MatchOption result (IsNoForm IsAny (word.now ∷ name.now ∷ third.now ∷ []))
+        (λ command. IsForm (form_of command) (word.now ∷ name.now ∷ third.now ∷ [])) }
 {
-    if word != "route" {
-        return None;
+    if word == "route" {
+        of_elcr(name, third)
+    } else if word == "trace" {
+        Some(Command::OfBoard(BoardCommand {
+            way: Way::Trace,
+            image: name,
+            script: third,
+        }))
+    } else if word == "boot" {
+        Some(Command::OfBoard(BoardCommand {
+            way: Way::Boot,
+            image: name,
+            script: third,
+        }))
+    } else {
+        None
     }
+}
+
+// the routes of an image under the ELCR that the word says
+fn of_elcr<'a>(name: &'a str, elcr: &str) -> Option<Command<'a>>
+    ensures { MatchOption result (IsNoForm IsAny (codes "route" ∷ name.now ∷ elcr.now ∷ []))
+        (λ command. IsForm (form_of command) (codes "route" ∷ name.now ∷ elcr.now ∷ [])) }
+{
     match read_elcr(elcr) {
-        Some(number) => Some(Command::Route(name, number)),
+        Some(number) => Some(Command::OfTables(TablesCommand::Route(name, number))),
         None => None,
     }
 }
@@ -75,15 +122,15 @@ pub(crate) enum Source<'a> {
 }
 
 /// The file that gives the form its tables.
-pub(crate) fn source_named<'a>(command: Command<'a>) -> Source<'a>
-    ensures { named_of result ≡ source_of (form_of command.entry) }
+pub(crate) fn source_named<'a>(command: TablesCommand<'a>) -> Source<'a>
+    ensures { named_of result ≡ source_of (form_of_tables command.entry) }
 {
     match command {
-        Command::Show(image)
-        | Command::Audit(image)
-        | Command::Canon(image)
-        | Command::Route(image, _) => Source::Image(image),
-        Command::Build(listing) => Source::Listing(listing),
+        TablesCommand::Show(image)
+        | TablesCommand::Audit(image)
+        | TablesCommand::Canon(image)
+        | TablesCommand::Route(image, _) => Source::Image(image),
+        TablesCommand::Build(listing) => Source::Listing(listing),
     }
 }
 
