@@ -55,7 +55,7 @@ cpu_plan_of p boot_program s id = record {
 }
 
 -- the config
-abbrev pub board_config_of : Platform → List Answer → Script → Plan
+unfoldable pub board_config_of : Platform → List Answer → Script → Plan
 board_config_of p answers s = record {
   boot = boot_id_of p;
   boot_len = length (boot_program_of p answers s.page);

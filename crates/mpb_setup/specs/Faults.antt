@@ -52,7 +52,7 @@ least_absent_place n ids s = find (λ a. nat_le n a && names_place ids s a) (ran
 
 -- the first cause: no boot processor; an id of two enabled processors, or of two enabled I/O APICs; the id 255; a boot id of 15
 -- or above; a boot processor that isn't present; more than 8 processors; more than 4 I/O APICs; a place that isn't there
-abbrev pub board_fault_of : Platform → Script → Option BoardError
+unfoldable pub board_fault_of : Platform → Script → Option BoardError
 board_fault_of p s =
     fault_if (not (is_some (boot_processor_of p))) fault.NoBoot
     <|> option_map fault.DoubleId (least_double (enabled_ids p))
