@@ -36,7 +36,7 @@ is_op_at a (op.IoWin b v) = b == a
 is_op_at a (op.IoRead b) = b == a
 is_op_at a o = false
 
--- the word of a device does
+-- the word of a device names the I/O APIC at the place
 abbrev pub is_word_at : ℕ → DevWord → Bool
 is_word_at a (word.Pulse b pin) = b == a
 is_word_at a (word.High b pin) = b == a
