@@ -53,12 +53,7 @@ pub fn script_fault_line(alloc: Global, fault: ScriptFault) -> Result<Vec<u8>, N
 
 // the line for a wrong word
 #[tactic(auto, using(crate::proofs::LineLemmas::word_line_is))]
-fn word_line(
-    alloc: Global,
-    agent: Agent,
-    index: u32,
-    why: WordWhy,
-) -> Result<Vec<u8>, NoMemory>
+fn word_line(alloc: Global, agent: Agent, index: u32, why: WordWhy) -> Result<Vec<u8>, NoMemory>
     ensures { IfOk result (λ text. text.items ≡ script_fault_line (Word agent index why)) }
 {
     let (kind, number) = agent_parts(agent);

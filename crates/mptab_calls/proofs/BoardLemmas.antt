@@ -1,5 +1,5 @@
 -- What the walk over an image and a script meets is what is due to the form.
-use Rattle.std.proofs.Common.{◌≡◌, ◌≢◌, ℕ, ◌+◌, ◌≤◌, ◌<◌, ◌^◌, List, [], ◌∷◌, length, Option, Some, None, IfSome, IsSomeAnd, Result, Ok, Err, IfOk, IfErr, refl, sym, ap, subst, ◌∙◌, inl, inr, arith}
+use Rattle.std.proofs.Common.{◌≡◌, ℕ, ◌+◌, ◌≤◌, ◌<◌, ◌^◌, List, [], ◌∷◌, Option, Some, None, Result, Ok, Err, IfOk, IfErr, refl, sym, subst, ◌∙◌, inl, inr, arith}
 use Rattle.std.specs.List.{AllByRecursion}
 use Rattle.mpt_base.specs.Outside.{Files, IsSizeTold, Rose}
 use Rattle.mpt_table.specs.Windows.{IfTold}
@@ -29,7 +29,7 @@ use Rattle.mptab_calls.specs.declared.ending.Ending.{Ending}
 use Rattle.mptab_calls.specs.declared.ending.Ending.TheVariants.{Refused, NoMemory}
 use Rattle.mptab_calls.specs.declared.words.Way.{Way}
 use Rattle.mptab_calls.specs.declared.words.Way.TheVariants as way
-use Rattle.mptab_calls.specs.Forms.{Form, Named, Image, Script, files_of, name_of, limit_of, form_of_way, IsRead}
+use Rattle.mptab_calls.specs.Forms.{Form, Named, Image, Script, files_of, limit_of, form_of_way, IsRead}
 use Rattle.mptab_calls.specs.Commands.{GivesTables, GivesScript, IsUnderstood, IsRefused, IsGivenBoard, IsReportBy}
 use Rattle.mptab_calls.specs.Walk.{Outside, IsDueOf, AsksOf, Reaches, IsFirstRead, most_of}
 use Rattle.mptab_calls.specs.Ending.{ending_status, ending_text, IsEnding, Shelves, shelves}
@@ -96,10 +96,12 @@ module _ (told : Option Files) (w : Way) (image script : List ℕ) where
   asks-image before after le = (most_of told (Image image), le, subst (λ fs. AsksOf told fs (most_of told (Image image))) (sym files-are) (inl (omega arith)))
 
   pub asks-both : (before between after : ℕ) (tables : Tables) → GivesTables told (Image image) tables → between ≤ before + most_of told (Image image) → after ≤ between + most_of told (Script image script) → (n : ℕ) × (after ≤ before + n) × AsksOf told (files_of form) n
-  asks-both before between after tables gives first second =
-      (most_of told (Image image) + most_of told (Script image script), omega (arith, first, second),
-       subst (λ fs. AsksOf told fs (most_of told (Image image) + most_of told (Script image script))) (sym files-are)
-        (inr ((tables, gives), most_of told (Image image), most_of told (Script image script), refl, omega arith, inl (omega arith))))
+  asks-both before between after tables gives first second = (
+    most_of told (Image image) + most_of told (Script image script),
+    omega (arith, first, second),
+    subst (λ fs. AsksOf told fs (most_of told (Image image) + most_of told (Script image script))) (sym files-are)
+        (inr ((tables, gives), most_of told (Image image), most_of told (Script image script), refl, omega arith, inl (omega arith))),
+  )
 
 -- ---- a script
 
@@ -135,7 +137,7 @@ module _ (told : Option Files) (s : Shelves) (image name : List ℕ) (size : ℕ
   pub script-refused : (f : ScriptFault) (answer : Result Answer NoMemoryUnit) (e : Ending) → IsCauseOf bytes f → IfOk answer (λ a. (a.status ≡ 8) × (a.text.items ≡ script_fault_line f) × IsScriptFault f) → IfOk answer (λ a. e ≡ Refused a) → IfErr answer (λ m. e ≡ NoMemory)
       → IsEnding told s (Script image name) e
   script-refused f answer e cause = refused_or told s (Script image name) answer e 8 (script_fault_line f) (IsScriptFault f)
-    (λ some. inl (refl, f, some, IsRead-bytes told (Script image name) size bytes (λ text. HasFault text f) is within same (script-fault bytes f cause some), refl)) there kept
+      (λ some. inl (refl, f, some, IsRead-bytes told (Script image name) size bytes (λ text. HasFault text f) is within same (script-fault bytes f cause some), refl)) there kept
 
   module _ (tables : Tables) (script : AScript) (low_form : IsWellFormed tables) (gives : GivesTables told (Image image) tables) (values : HasScriptValues script) (reads : IsScriptOf bytes script) where
     gives-script : GivesScript told (Script image name) script
@@ -145,7 +147,7 @@ module _ (told : Option Files) (s : Shelves) (image name : List ℕ) (size : ℕ
     pub board-refused : (f : BoardError) (answer : Result Answer NoMemoryUnit) (e : Ending) → BoardCause (platform_of tables) script f → IfOk answer (λ a. (a.status ≡ 11) × (a.text.items ≡ board_fault_line f) × IsBoardFault f) → IfOk answer (λ a. e ≡ Refused a) → IfErr answer (λ m. e ≡ NoMemory)
         → IsEnding told s (Script image name) e
     board-refused f answer e cause = refused_or told s (Script image name) answer e 11 (board_fault_line f) (IsBoardFault f)
-      (λ some. inr (refl, tables, low_form, gives, script, gives-script, f, board-fault (platform_of tables) script f cause some, refl)) there kept
+        (λ some. inr (refl, tables, low_form, gives, script, gives-script, f, board-fault (platform_of tables) script f cause some, refl)) there kept
 
     pub board-given : (c : Plan) → fault_of tables script ≡ None → c ≡ board_of tables script → IsStartableAt script.page c → plan_size c < 2 ^ 32 → IsGivenBoard told (Script image name) tables c
     board-given c sound config startable small = record { script = script; gives = gives-script; sound = sound; config = config; startable = startable; small = small }

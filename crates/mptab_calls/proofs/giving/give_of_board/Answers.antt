@@ -17,7 +17,7 @@ returns-in-Ok-clause-due g c =
       due.0,
       due.1,
       IsDueOf-earlier (g.S.Shelf.files c.args.shelf.now) (outside (g.S.Shelf.misses c.args.shelf.now) (g.S.Shelf.faults c.args.shelf.now) (g.S.Shelf.asked c.args.shelf.now) (g.O.Sink.faults c.args.out.now) (g.O.Sink.written c.args.out.now)) (outside (g.S.Shelf.misses c.take_image.new.shelf) (g.S.Shelf.faults c.take_image.new.shelf) (g.S.Shelf.asked c.take_image.new.shelf) (g.O.Sink.faults c.args.out.now) (g.O.Sink.written c.args.out.now)) (outside (g.S.Shelf.misses c.give_of_tables_and_script.new.shelf) (g.S.Shelf.faults c.give_of_tables_and_script.new.shelf) (g.S.Shelf.asked c.give_of_tables_and_script.new.shelf) (g.O.Sink.faults c.give_of_tables_and_script.new.out) (g.O.Sink.written c.give_of_tables_and_script.new.out)) (form_of_board c.args.command) due.0 due.1 facts.misses facts.unfailed
-        (subst (λ (t : Option Files). IsDueOf t (outside (g.S.Shelf.misses c.take_image.new.shelf) (g.S.Shelf.faults c.take_image.new.shelf) (g.S.Shelf.asked c.take_image.new.shelf) (g.O.Sink.faults c.args.out.now) (g.O.Sink.written c.args.out.now)) (outside (g.S.Shelf.misses c.give_of_tables_and_script.new.shelf) (g.S.Shelf.faults c.give_of_tables_and_script.new.shelf) (g.S.Shelf.asked c.give_of_tables_and_script.new.shelf) (g.O.Sink.faults c.give_of_tables_and_script.new.out) (g.O.Sink.written c.give_of_tables_and_script.new.out)) (form_of_board c.args.command) due.0 due.1) facts.files_stay due.2),
+          (subst (λ (t : Option Files). IsDueOf t (outside (g.S.Shelf.misses c.take_image.new.shelf) (g.S.Shelf.faults c.take_image.new.shelf) (g.S.Shelf.asked c.take_image.new.shelf) (g.O.Sink.faults c.args.out.now) (g.O.Sink.written c.args.out.now)) (outside (g.S.Shelf.misses c.give_of_tables_and_script.new.shelf) (g.S.Shelf.faults c.give_of_tables_and_script.new.shelf) (g.S.Shelf.asked c.give_of_tables_and_script.new.shelf) (g.O.Sink.faults c.give_of_tables_and_script.new.out) (g.O.Sink.written c.give_of_tables_and_script.new.out)) (form_of_board c.args.command) due.0 due.1) facts.files_stay due.2),
       due.3,
     )
 
@@ -25,7 +25,7 @@ pub returns-in-Ok-clause-asks : goal.returns-in-Ok-clause-asks
 returns-in-Ok-clause-asks g c =
     let facts = c.in-Ok.ensures in
     asks-both (g.S.Shelf.files c.args.shelf.now) c.args.command.way c.args.command.image.now c.args.command.script.now (g.S.Shelf.asked c.args.shelf.now) (g.S.Shelf.asked c.take_image.new.shelf) (g.S.Shelf.asked c.give_of_tables_and_script.new.shelf) c.in-Ok.tables facts.tables facts.asks
-      (subst (λ (t : Option Files). g.S.Shelf.asked c.give_of_tables_and_script.new.shelf ≤ g.S.Shelf.asked c.take_image.new.shelf + most_of t (Script c.args.command.image.now c.args.command.script.now)) facts.files_stay c.give_of_tables_and_script.ensures.asks)
+    (subst (λ (t : Option Files). g.S.Shelf.asked c.give_of_tables_and_script.new.shelf ≤ g.S.Shelf.asked c.take_image.new.shelf + most_of t (Script c.args.command.image.now c.args.command.script.now)) facts.files_stay c.give_of_tables_and_script.ensures.asks)
 
 pub returns-in-Err-clause-due : goal.returns-in-Err-clause-due
 returns-in-Err-clause-due g c =

@@ -1,4 +1,3 @@
-use Rattle.std.proofs.Common.{◌≡◌, ◌∙◌, sym}
 use Rattle.mptab_calls.specs.declared.ending.Ending.TheVariants.{NoMemory}
 use Rattle.mptab_calls.specs.Walk.{outside}
 use Rattle.mptab_calls.specs.Ending.{ending_status, ending_text}

@@ -1,5 +1,5 @@
 use Rattle.mptab_calls.specs.Ending.{shelves}
-use Rattle.mptab_calls.proofs.BoardLemmas.{script-refused, board-refused, board-given}
+use Rattle.mptab_calls.proofs.BoardLemmas.{script-refused, board-refused}
 use Rattle.mptab_calls.proofs.script.script_of_size.Goals as goal
 
 pub returns-in-Err : goal.returns-in-Err
