@@ -1,0 +1,7 @@
+pub mod Lists
+pub mod Journals
+pub mod Takes
+pub mod Gives
+pub mod Moves
+pub mod Ends
+pub mod Starts
