@@ -1,7 +1,9 @@
 //! A shared bus is opened: its word and its slot, and its seats, which are cut one by one from the
 //! first.
 
-ghost use Rattle.std.specs.Prelude.{◌≡◌, ◌<◌, [], false, length, IfOk, map};
+ghost use Rattle.std.specs.Prelude.{◌≡◌, ◌<◌, ◌++◌, [], false, length, IfOk, OnOk, map};
+ghost use Rattle.std.specs.List.{range_with_len};
+ghost use Rattle.mpb_spec.specs.declared.agent.Agent.TheVariants.{Cpu, Io, Dev};
 ghost use Rattle.mpb_bus.specs.Agents.{agents_of};
 ghost use Rattle.mpb_bus.specs.Seats.{fresh_seat};
 ghost use Rattle.mpb_bus.specs.Rule.{agent_of, fresh_agent, nobody, opening_view, shown_agent, without_agent};
@@ -12,31 +14,55 @@ use crate::rule::OneAgent;
 use crate::seat::BusSeat;
 use crate::view::SeatView;
 use atomic_table::{Seat, Table};
-use mpb_board::{Agent, Board, Config};
+use mpb_board::{Agent, Board, Config, CpuConfig};
 use mpt_base::NoMemory;
 use std::alloc::Global;
 use std::snapshot::Snapshot;
+
+/// The processors, in order.
+fn processors(alloc: Global, cpus: &[CpuConfig]) -> Result<Vec<Agent>, NoMemory>
+    ensures { IfOk result (λ agents. agents.items ≡ map (λ p. Cpu p.id) cpus.now) }
+{
+    let mut agents = Vec::new(alloc);
+    for cpu in cpus {
+        let Ok(()) = agents.push(Agent::Cpu(cpu.id)) else {
+            return Err(NoMemory);
+        };
+    }
+    Ok(agents)
+}
+
+/// Behind them so many I/O APICs.
+fn push_places(agents: &mut Vec<Agent>, count: u8) -> Result<(), NoMemory>
+    ensures { OnOk result (agents.new.items ≡ agents.old.items ++ map Io (range_with_len 0 count)) }
+{
+    for place in 0..count {
+        let Ok(()) = agents.push(Agent::Io(place)) else {
+            return Err(NoMemory);
+        };
+    }
+    Ok(())
+}
+
+/// And so many devices.
+fn push_devices(agents: &mut Vec<Agent>, count: u8) -> Result<(), NoMemory>
+    ensures { OnOk result (agents.new.items ≡ agents.old.items ++ map Dev (range_with_len 0 count)) }
+{
+    for number in 0..count {
+        let Ok(()) = agents.push(Agent::Dev(number)) else {
+            return Err(NoMemory);
+        };
+    }
+    Ok(())
+}
 
 /// The agents of a board, in order.
 pub(crate) fn agents_in(alloc: Global, config: &Config) -> Result<Vec<Agent>, NoMemory>
     ensures { IfOk result (λ agents. agents.items ≡ agents_of config.now) }
 {
-    let mut agents = Vec::new(alloc);
-    for cpu in &config.cpus {
-        let Ok(()) = agents.push(Agent::Cpu(cpu.id)) else {
-            return Err(NoMemory);
-        };
-    }
-    for place in 0..config.ios.len() as u8 {
-        let Ok(()) = agents.push(Agent::Io(place)) else {
-            return Err(NoMemory);
-        };
-    }
-    for number in 0..config.devices.len() as u8 {
-        let Ok(()) = agents.push(Agent::Dev(number)) else {
-            return Err(NoMemory);
-        };
-    }
+    let mut agents = processors(alloc, config.cpus.as_slice())?;
+    push_places(&mut agents, config.ios.len() as u8)?;
+    push_devices(&mut agents, config.devices.len() as u8)?;
     Ok(agents)
 }
 
