@@ -5,3 +5,4 @@ pub mod Gives
 pub mod Moves
 pub mod Ends
 pub mod Starts
+pub mod Answered
