@@ -85,3 +85,11 @@ module _ (c : Plan) (s : State Slot SeatView) (ok : IsKept c s) (id : ℕ) (v : 
       })
       (λ (o : IsOdd ok.journal s). absurd (not_odd o))
       ok.phase
+
+-- what lies in a slot is one thing
+pub held_same : (h k : Held) → Some h ≡ Some k → h ≡ k
+held_same h k e = ap (held_or h) e
+  where
+    held_or : Held → Slot → Held
+    held_or d (Some x) = x
+    held_or d None = d
