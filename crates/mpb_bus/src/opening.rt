@@ -4,6 +4,7 @@
 ghost use Rattle.std.specs.Prelude.{◌≡◌, ◌<◌, ◌++◌, [], false, length, IfOk, OnOk, map};
 ghost use Rattle.std.specs.List.{range_with_len};
 ghost use Rattle.mpb_spec.specs.declared.agent.Agent.TheVariants.{Cpu, Io, Dev};
+ghost use Rattle.mpb_spec.specs.Configs.{IsConfig};
 ghost use Rattle.mpb_bus.specs.Agents.{agents_of};
 ghost use Rattle.mpb_bus.specs.Seats.{fresh_seat};
 ghost use Rattle.mpb_bus.specs.Rule.{agent_of, fresh_agent, nobody, opening_view, shown_agent, without_agent};
@@ -71,6 +72,7 @@ pub(crate) fn open_words(
     alloc: Global,
     board: Board,
 ) -> Result<(Words, Seat<Option<Held>, SeatView>), NoMemory>
+    requires { IsConfig board.plan }
     ensures table { IfOk result (λ made. (made.0.shared.table_id.words ≡ 1) × (made.0.shared.table_id.slots ≡ 1) × (made.0.shared.key.value ≡ board)) }
     ensures seat { IfOk result (λ made. (made.1.table_id ≡ made.0.shared.table_id) × (made.1.me ≡ (opening_view board.plan board.journal, []))) }
 {
