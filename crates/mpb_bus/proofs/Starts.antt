@@ -18,8 +18,9 @@ use Rattle.mpb_bus.specs.declared.held.Held.{Held}
 use Rattle.mpb_bus.specs.declared.view.AgentView.{AgentView}
 use Rattle.mpb_bus.specs.declared.view.SeatView.{SeatView}
 use Rattle.mpb_bus.specs.Agents.{agents_of, is_agent, entries_of, IsPrefix}
+use Rattle.mpb_bus.specs.Seats.{SharedBus, AgentSeat, AreSeatsOf, fresh_seat}
 use Rattle.mpb_bus.specs.Rule.{Slot, opening_view, fresh_agent, no_agent, rest_of, one_if, times, AgentFits, ViewFits, IsKept, over_agents}
-use Rattle.mpb_bus.proofs.Lists.{count_all, sum_map}
+use Rattle.mpb_bus.proofs.Lists.{count_all, map_map, sum_map}
 use Rattle.mpb_bus.proofs.Journals.{prefix_refl}
 
 -- a sum of zeros
@@ -165,3 +166,15 @@ rest_of_rest xs i d l = ap (λ ys. rest_of ys) (drop_more xs i d l)
 
 pub some_of_rest : {A B : Type 0} (f : A → B) (xs : List A) (i : ℕ) → i < length xs → 0 < length (drop i (map f xs))
 some_of_rest f xs i l = (let n = length-map xs f in let d = length-drop i (map f xs) in omega arith)
+
+map_itself : {A : Type 0} (f : A → A) (xs : List A) → ((x : A) → f x ≡ x) → map f xs ≡ xs
+map_itself f [] same = refl
+map_itself f (x ∷ xs) same = ap (λ y. y ∷ map f xs) (same x) ∙ ap (λ l. x ∷ l) (map_itself f xs same)
+
+-- the seats of the agents are all seats
+pub fresh_are_all : (bus : SharedBus) (journal : List Entry) (agents : List Agent) (seats : List AgentSeat) → seats ≡ map (fresh_seat bus.bus bus.plan journal) agents → agents ≡ agents_of bus.plan → AreSeatsOf bus seats
+fresh_are_all bus journal agents seats fresh all =
+    let seat = fresh_seat bus.bus bus.plan journal in (
+      ap (λ l. map (λ (s : AgentSeat). s.agent) l) fresh ∙ map_map (λ (s : AgentSeat). s.agent) seat agents ∙ map_itself (λ g. (seat g).agent) agents (λ _. refl) ∙ all,
+      subst (All (λ s. s.bus ≡ bus.bus)) (sym fresh) (All-map (λ (s : AgentSeat). s.bus ≡ bus.bus) seat agents (λ k d l. refl)),
+    )

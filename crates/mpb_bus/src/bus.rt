@@ -7,7 +7,7 @@ ghost use Rattle.mpb_spec.specs.Journal.{IsLegal};
 ghost use Rattle.mpb_spec.specs.May.{IsQuiescent, MayAny, MayStep};
 ghost use Rattle.mpb_bus.specs.declared.turn.Turn.TheVariants.{Done, Idle, Quiet};
 ghost use Rattle.mpb_bus.specs.Agents.{IsPrefix, agents_of, entries_of};
-ghost use Rattle.mpb_bus.specs.Seats.{fresh_seat, state_seen};
+ghost use Rattle.mpb_bus.specs.Seats.{AreSeatsOf, fresh_seat, state_seen};
 ghost use Rattle.mpb_bus.specs.Turns.{Stepped, entries_in};
 
 use crate::closing::{settle, take_all};
@@ -47,7 +47,8 @@ impl Bus {
     pub fn new(alloc: Global, board: Board) -> Result<(Bus, Vec<BusSeat>), NoMemory>
         ensures bus { IfOk result (λ made. made.0.plan ≡ board.plan) }
         ensures seats { IfOk result (λ made. made.1.items ≡ map (fresh_seat made.0.bus board.plan board.journal) (agents_of board.plan)) }
-        ensures legal { IfOk result (λ made. IsLegal board.plan board.journal) }
+        ensures all { IfOk result (λ made. AreSeatsOf made.0 made.1.items) }
+        ensures legal { IfOk result (λ _. IsLegal board.plan board.journal) }
     {
         let agents = agents_in(alloc, board.config())?;
         let _ = board.journal();
@@ -96,7 +97,7 @@ impl Bus {
 
     /// Takes all seats of the bus back, in the order in which `new` gave them, and gives the board.
     pub fn close(self, seats: Vec<BusSeat>) -> Board
-        requires seats { (map (λ s. s.agent) seats.items ≡ agents_of self.plan) × All (λ s. s.bus ≡ self.bus) seats.items }
+        requires seats { AreSeatsOf self seats.items }
         ensures plan { result.plan ≡ self.plan }
         ensures legal { IsLegal result.plan result.journal }
         ensures prefix { All (λ s. IsPrefix s.seen result.journal) seats.items }
