@@ -1,8 +1,7 @@
 //! Workers, each with a seat and in a thread of its own.
 
-ghost use Rattle.std.specs.Prelude.{◌≡◌, ℕ, true, length, All, IsTrue, slice_index_or};
-ghost use Rattle.mpb_spec.specs.May.{IsQuiescent};
-ghost use Rattle.mpb_bus.specs.Seats.{AreSeatsOf, state_seen};
+ghost use Rattle.std.specs.Prelude.{◌≡◌, ◌<◌, ℕ, length, All, slice_index_or};
+ghost use Rattle.mpb_bus.specs.Seats.{AreSeatsOf};
 
 use mpb_board::Offer;
 use mpb_bus::{Bus, BusSeat, Turn};
@@ -39,9 +38,18 @@ fn work<R: Wait>(rt: &R, bus: &Bus, seat: &mut BusSeat)
 }
 
 /// Runs a worker for each seat.
-pub(crate) fn work_all<R: Threads + Wait + Sync>(rt: &R, bus: &Bus, seats: &mut [BusSeat])
-    requires { AreSeatsOf bus.now seats.old }
-    ensures { AreSeatsOf bus.now seats.new }
+fn work_each<R: Threads + Wait + Sync>(rt: &R, bus: &Bus, seats: &mut [BusSeat])
+    requires { All (λ s. s.bus ≡ bus.now.bus) seats.old }
+    ensures bus { All (λ s. s.bus ≡ bus.now.bus) seats.new }
+    ensures agents { (i : ℕ) (d : _) → i < length seats.old → (slice_index_or seats.new i d).agent ≡ (slice_index_or seats.old i d).agent }
 {
     thread::for_each_mut(rt, seats, 16, &|_, seat| work(rt, bus, seat));
+}
+
+/// Runs a worker for each seat of a bus.
+pub(crate) fn work_all<R: Threads + Wait + Sync>(rt: &R, bus: &Bus, seats: &mut Vec<BusSeat>)
+    requires { AreSeatsOf bus.now seats.old.items }
+    ensures { AreSeatsOf bus.now seats.new.items }
+{
+    work_each(rt, bus, seats.as_mut_slice());
 }

@@ -12,7 +12,7 @@ fn two_threads_make_nine_entries(rt: HostRuntime) -> Result<(), Fail> {
     let words = [Op::Pause(1), Op::Pause(1)];
     let config = two_processors(rt.alloc(), words.as_slice())?;
     let (bus, mut seats) = opened(rt.alloc(), config)?;
-    work_all(&rt, &bus, seats.as_mut_slice());
+    work_all(&rt, &bus, &mut seats);
     let board = bus.close(seats);
     assert!(rt; board.quiet());
     assert_eq!(rt; board.journal().len(), 9);
@@ -23,7 +23,7 @@ fn two_threads_make_nine_entries(rt: HostRuntime) -> Result<(), Fail> {
 fn sixteen_threads_make_one_history(rt: HostRuntime) -> Result<(), Fail> {
     let (bus, mut seats) = opened(rt.alloc(), crowd(rt.alloc())?)?;
     assert_eq!(rt; seats.len(), 16);
-    work_all(&rt, &bus, seats.as_mut_slice());
+    work_all(&rt, &bus, &mut seats);
     let board = bus.close(seats);
     assert!(rt; board.quiet());
     let config = crowd(rt.alloc())?.ok_or("no config")?;

@@ -1,12 +1,13 @@
 //! What a meeting tells.
 
-ghost use Rattle.std.specs.Prelude.{◌≡◌, ◌∷◌, ◌++◌, [], IfSome};
+ghost use Rattle.std.specs.Prelude.{◌≡◌, ◌∷◌, ◌++◌, [], IfOk, IfSome};
 ghost use Rattle.mpb_bus.specs.Agents.{IsPrefix, entries_of};
 
 use crate::boards::two_processors;
 use crate::harness::opened;
 use mpb_board::{Entry, Offer, Op};
 use mpb_bus::{Bus, BusSeat, Turn};
+use std::alloc::Global;
 use std::sync::Wait;
 use std::test::Fail;
 
@@ -42,19 +43,26 @@ fn three_turns_and_a_meeting<R: Wait>(
     Some((first, second, third))
 }
 
+/// A bus over two processors, of which the second makes a pause, and its two seats.
+fn two_seats(alloc: Global) -> Result<(Bus, BusSeat, BusSeat), Fail>
+    ensures { IfOk result (λ made. (made.1.bus ≡ made.0.bus) × (made.2.bus ≡ made.0.bus)) }
+{
+    let (bus, mut seats) = opened(alloc, two_processors(alloc, &[Op::Pause(1)])?)?;
+    let two = seats.pop().ok_or("no seats")?;
+    let one = seats.pop().ok_or("no two seats")?;
+    Ok((bus, one, two))
+}
+
 #[test]
 fn meeting_tells_three_entries(rt: HostRuntime) -> Result<(), Fail> {
-    let config = two_processors(rt.alloc(), &[Op::Pause(1)])?;
-    let (bus, mut seats) = opened(rt.alloc(), config)?;
-    let [one, two] = seats.as_mut_slice() else {
-        panic!(rt; "no two seats");
-    };
-    let Some((first, second, third)) = three_turns_and_a_meeting(&rt, &bus, one, two) else {
+    let (bus, mut one, mut two) = two_seats(rt.alloc())?;
+    let Some((first, second, third)) = three_turns_and_a_meeting(&rt, &bus, &mut one, &mut two)
+    else {
         panic!(rt; "no three entries");
     };
     assert!(rt; first.op == Op::Init(1) && second.op == Op::Pause(10_000));
     assert!(rt; third.op == Op::Startup(1, 0x9F));
-    let Some(fourth) = entry_of(&rt, &bus, two) else {
+    let Some(fourth) = entry_of(&rt, &bus, &mut two) else {
         panic!(rt; "no fourth entry");
     };
     assert!(rt; fourth.op == Op::Pause(1));
