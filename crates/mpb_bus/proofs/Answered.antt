@@ -1,5 +1,5 @@
 -- What a turn, a meeting and the end tell of what the seats have seen.
-use Rattle.std.proofs.Common.{◌≡◌, ◌⊎◌, ℕ, ◌+◌, ◌<◌, List, [], ◌∷◌, ◌++◌, length, get_or, map, drop, All, Any, Option, Some, None, refl, sym, ap, ◌∙◌, subst, arith, inl, inr, append-nil}
+use Rattle.std.proofs.Common.{◌≡◌, List, [], ◌∷◌, ◌++◌, get_or, map, All, Any, Some, None, refl, sym, ap, ◌∙◌, subst, inl, inr, append-nil}
 use Rattle.mpb_spec.specs.declared.agent.Agent.{Agent}
 use Rattle.mpb_spec.specs.declared.agent.Offer.{Offer}
 use Rattle.mpb_spec.specs.declared.agent.Op.{Op}
@@ -62,7 +62,7 @@ none-some o e = cc
 
 -- what is seen where nobody may step can't be continued
 pub quiet_whole : (c : Plan) (seen journal : List Entry) → IsPrefix seen journal → IsLegal c journal → IsQuiescent (final_state_of c seen) → seen ≡ journal
-quiet_whole c seen journal p legal quiet = by_rest p.0 (p.1) 
+quiet_whole c seen journal p legal quiet = by_rest p.0 (p.1)
   where
     by_rest : (rest : List Entry) → journal ≡ seen ++ rest → seen ≡ journal
     by_rest [] e = sym (e ∙ append-nil seen)

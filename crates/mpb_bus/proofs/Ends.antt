@@ -1,5 +1,5 @@
 -- The end: one view has all agents, so the board is at home and some agent has seen its whole journal.
-use Rattle.std.proofs.Common.{◌≡◌, ◌≢◌, ℕ, ◌+◌, ◌<◌, ◌≤◌, ◌==◌, Bool, true, false, true≢false, eqb, List, [], ◌∷◌, ◌++◌, length, set, get_or, map, sum_by, All, Any, Option, Some, None, refl, sym, ap, ◌∙◌, subst, arith, ⊎_elim, IsTrue}
+use Rattle.std.proofs.Common.{◌≡◌, ℕ, ◌<◌, Bool, true, false, true≢false, eqb, List, [], ◌∷◌, length, set, sum_by, All, Any, Some, None, refl, sym, ap, ◌∙◌, subst, arith, ⊎_elim}
 use mathlib.Core.Option.{some, some-injective}
 use mathlib.Core.Logic.{dite}
 use native.Mathlib.Decide.{ℕ_discrete}
@@ -8,12 +8,11 @@ use Rattle.std.proofs.lemmas.Bool.Decides.{nat_tests}
 use Rattle.std.proofs.lemmas.List.Sums.{sum_by-cons}
 use Rattle.atomic_table.specs.Table.{State}
 use Rattle.atomic_table.proofs.Lists.{set_else}
-use Rattle.mpb_spec.specs.declared.entry.Entry.{Entry}
 use Rattle.mpb_spec.specs.Plan.{Plan}
 use Rattle.mpb_bus.specs.declared.held.Held.{Held}
 use Rattle.mpb_bus.specs.declared.view.AgentView.{AgentView}
 use Rattle.mpb_bus.specs.declared.view.SeatView.{SeatView}
-use Rattle.mpb_bus.specs.Agents.{agents_of, IsPrefix}
+use Rattle.mpb_bus.specs.Agents.{agents_of}
 use Rattle.mpb_bus.specs.Rule.{Slot, holding, nobody, over_agents, one_if, AgentFits, IsEven, IsOdd, IsKept}
 use Rattle.mpb_bus.proofs.Lists.{sum_set, sum_at, sum_none, count_all, any_above}
 use Rattle.mpb_bus.proofs.Journals.{prefix_whole}

@@ -1,5 +1,5 @@
 -- A give keeps the rule.
-use Rattle.std.proofs.Common.{◌≡◌, ◌≢◌, ℕ, ◌+◌, ◌*◌, ◌<◌, ◌≤◌, Bool, true, false, true≢false, eqb, List, [], ◌∷◌, ◌++◌, length, set, get_or, drop, sum_by, All, Option, Some, None, refl, sym, ap, ◌∙◌, subst, arith, ⊎_elim, inl, inr, length-set, eq-eqb, append-nil}
+use Rattle.std.proofs.Common.{◌≡◌, ◌≢◌, ℕ, ◌+◌, ◌*◌, ◌<◌, Bool, true, false, true≢false, eqb, List, [], ◌∷◌, ◌++◌, length, set, get_or, drop, sum_by, All, Some, refl, sym, ap, ◌∙◌, subst, arith, ⊎_elim, inl, length-set, eq-eqb, append-nil}
 use mathlib.Core.Option.{some, none, some-injective}
 use lib.ListN.{get_elem?}
 use Rattle.std.proofs.lemmas.List.{get_or-set_same}
@@ -7,13 +7,12 @@ use Rattle.std.proofs.lemmas.List.Elements.{All-cons, All-nil}
 use Rattle.std.proofs.lemmas.List.Sums.{sum_by-cons, get_or-le-sum_by}
 use Rattle.atomic_table.specs.Table.{State, step, stepped, Allows, gives}
 use Rattle.atomic_table.proofs.Lists.{at_set, set_else, set_here}
-use Rattle.mpb_spec.specs.declared.agent.Agent.{Agent}
 use Rattle.mpb_spec.specs.declared.entry.Entry.{Entry}
 use Rattle.mpb_spec.specs.Plan.{Plan}
 use Rattle.mpb_bus.specs.declared.held.Held.{Held}
 use Rattle.mpb_bus.specs.declared.view.AgentView.{AgentView}
 use Rattle.mpb_bus.specs.declared.view.SeatView.{SeatView}
-use Rattle.mpb_bus.specs.Agents.{agents_of, is_agent, entries_of, IsPrefix}
+use Rattle.mpb_bus.specs.Agents.{is_agent, entries_of, IsPrefix}
 use Rattle.mpb_bus.specs.Rule.{Slot, resting, holding, nobody, given, agent_of, over_agents, one_if, AgentFits, ViewFits, IsEven, IsOdd, IsKept, Gives, GrowsBy}
 use Rattle.mpb_bus.proofs.Lists.{sum_set, sum_at, set_at}
 use Rattle.mpb_bus.proofs.Journals.{prefix_refl, prefix_push, prefix_trans, drop_all, drop_push, is_agent-itself, own_entry, other_entry}
@@ -73,10 +72,10 @@ module _ (c : Plan) (s : State Slot SeatView) (ok : IsKept c s) (id : ℕ) (a : 
   others_same j u ne there k d l =
       let g = (get_or u.agents k d).agent in
       ⊎_elim
-          (λ (e : journal' ≡ a.seen). ap (entries_of g) (sym (e ∙ seen_all)))
-          (λ (e : (x : Entry) × (journal' ≡ a.seen ++ x ∷ []) × (x.agent ≡ a.agent)).
-          sym (ap (entries_of g) (e.1 ∙ ap (λ l. l ++ e.0 ∷ []) seen_all) ∙ other_entry g ok.journal e.0 (ap (λ x. is_agent x g) e.2 ∙ apart j u ne there k d l)))
-          grows
+      (λ (e : journal' ≡ a.seen). ap (entries_of g) (sym (e ∙ seen_all)))
+      (λ (e : (x : Entry) × (journal' ≡ a.seen ++ x ∷ []) × (x.agent ≡ a.agent)).
+      sym (ap (entries_of g) (e.1 ∙ ap (λ l. l ++ e.0 ∷ []) seen_all) ∙ other_entry g ok.journal e.0 (ap (λ x. is_agent x g) e.2 ∙ apart j u ne there k d l)))
+      grows
 
   olds_then : (olds : List (List Entry)) → All (λ xs. IsPrefix xs ok.journal) olds → All (λ xs. IsPrefix xs journal') olds
   olds_then olds all k d l = prefix_trans (get_or olds k d) ok.journal journal' (all k d l) longer

@@ -1,5 +1,5 @@
 -- Views are cut in two and put together, and a seat enters: the rule stays.
-use Rattle.std.proofs.Common.{◌≡◌, ◌≢◌, ◌⊎◌, ℕ, zero, suc, ◌+◌, ◌*◌, ◌<◌, ◌≤◌, Bool, true, false, true≢false, eqb, List, [], ◌∷◌, ◌++◌, length, set, get_or, sum_by, All, refl, sym, ap, ◌∙◌, subst, arith, ⊎_elim, inl, inr}
+use Rattle.std.proofs.Common.{◌≡◌, ◌≢◌, ◌⊎◌, ℕ, ◌+◌, ◌<◌, Bool, true, false, true≢false, eqb, List, [], ◌∷◌, ◌++◌, length, set, sum_by, All, refl, sym, ap, ◌∙◌, subst, arith, ⊎_elim, inl, inr}
 use mathlib.Core.Option.{some, some-injective}
 use lib.ListN.{get_elem?}
 use Rattle.std.proofs.lemmas.List.Elements.{All-cons, All-nil, All-append, All-head, All-tail}
@@ -13,7 +13,7 @@ use Rattle.mpb_bus.specs.declared.view.AgentView.{AgentView}
 use Rattle.mpb_bus.specs.declared.view.SeatView.{SeatView}
 use Rattle.mpb_bus.specs.Agents.{IsPrefix}
 use Rattle.mpb_bus.specs.Rule.{Slot, resting, nobody, agent_of, rest_of, first_of_list, without_agent, first_agent, together, telling, hearing, heard, over_agents, one_if, AgentFits, ViewFits, IsEven, IsOdd, IsKept}
-use Rattle.mpb_bus.proofs.Lists.{sum_set, set_at, each_set, All_map}
+use Rattle.mpb_bus.proofs.Lists.{sum_set, each_set}
 use Rattle.mpb_bus.proofs.Takes.{known_of}
 
 -- only views that don't hold the board have changed, and the agents and what they have seen are the same

@@ -1,5 +1,5 @@
 -- The beginning: each agent of a board is there once, and none has taken the turn.
-use Rattle.std.proofs.Common.{◌≡◌, ℕ, zero, suc, ◌+◌, ◌*◌, ◌<◌, ◌≤◌, Bool, true, false, eqb, eq-eqb, List, [], ◌∷◌, ◌++◌, length, get_or, map, take, drop, sum_by, All, Some, refl, sym, ap, ◌∙◌, subst, arith, inl}
+use Rattle.std.proofs.Common.{◌≡◌, ℕ, zero, suc, ◌+◌, ◌*◌, ◌<◌, ◌≤◌, Bool, true, false, eqb, eq-eqb, List, [], ◌∷◌, ◌++◌, length, get_or, map, drop, sum_by, All, Some, refl, sym, ap, ◌∙◌, subst, arith, inl}
 use mathlib.Core.Option.{some, some-injective, some-ne-none}
 use lib.ListN.{get_elem?}
 use Rattle.std.specs.List.{AllByRecursion, range_with_len}
@@ -7,7 +7,7 @@ use Rattle.std.proofs.lemmas.Bool.Decides.{nat_tests}
 use Rattle.std.proofs.lemmas.List.{length-map, length-append, length-drop, get_or-map, get_or-drop, drop_more}
 use Rattle.std.proofs.lemmas.List.Elements.{All-map, All-nil}
 use Rattle.std.proofs.lemmas.List.Sums.{sum_by-cons, sum_by-append}
-use Rattle.atomic_table.specs.Table.{State, opening}
+use Rattle.atomic_table.specs.Table.{opening}
 use Rattle.mpb_spec.specs.declared.agent.Agent.{Agent}
 use Rattle.mpb_spec.specs.declared.agent.Agent.TheVariants.{Cpu, Io, Dev}
 use Rattle.mpb_spec.specs.declared.entry.Entry.{Entry}
@@ -17,9 +17,9 @@ use Rattle.mpb_spec.specs.Configs.{IsConfig}
 use Rattle.mpb_bus.specs.declared.held.Held.{Held}
 use Rattle.mpb_bus.specs.declared.view.AgentView.{AgentView}
 use Rattle.mpb_bus.specs.declared.view.SeatView.{SeatView}
-use Rattle.mpb_bus.specs.Agents.{agents_of, is_agent, entries_of, IsPrefix}
+use Rattle.mpb_bus.specs.Agents.{agents_of, is_agent, IsPrefix}
 use Rattle.mpb_bus.specs.Seats.{SharedBus, AgentSeat, AreSeatsOf, fresh_seat}
-use Rattle.mpb_bus.specs.Rule.{Slot, opening_view, fresh_agent, no_agent, rest_of, one_if, times, AgentFits, ViewFits, IsKept, over_agents}
+use Rattle.mpb_bus.specs.Rule.{opening_view, fresh_agent, rest_of, one_if, times, AgentFits, ViewFits, IsKept, over_agents}
 use Rattle.mpb_bus.proofs.Lists.{count_all, map_map, sum_map}
 use Rattle.mpb_bus.proofs.Journals.{prefix_refl}
 

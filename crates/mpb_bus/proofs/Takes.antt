@@ -1,5 +1,5 @@
 -- A take keeps the rule, won or lost.
-use Rattle.std.proofs.Common.{◌≡◌, ◌≢◌, ℕ, ◌+◌, ◌*◌, ◌%◌, ◌<◌, ◌≤◌, Bool, true, false, true≢false, eqb, List, [], ◌∷◌, ◌++◌, length, set, get_or, sum_by, All, Option, Some, None, refl, sym, ap, ◌∙◌, subst, arith, ⊎_elim, inl, inr, length-set, eq-eqb}
+use Rattle.std.proofs.Common.{◌≡◌, ◌≢◌, ℕ, ◌+◌, ◌%◌, ◌<◌, true, true≢false, eqb, List, [], ◌∷◌, length, get_or, sum_by, All, Some, refl, sym, ap, ◌∙◌, subst, arith, ⊎_elim, inr, length-set, eq-eqb}
 use mathlib.Core.Option.{some, none}
 use lib.ListN.{get_elem?}
 use prog.Atomic.{either}
@@ -8,13 +8,11 @@ use Rattle.std.proofs.lemmas.List.Elements.{All-cons, All-nil}
 use Rattle.std.proofs.lemmas.List.Sums.{sum_by-cons}
 use Rattle.atomic_table.specs.Table.{State, step, stepped, Allows, Valid, carried_after, keeps, takes}
 use Rattle.atomic_table.proofs.Lists.{at_set, set_again, exchanged}
-use Rattle.mpb_spec.specs.declared.agent.Agent.{Agent}
 use Rattle.mpb_spec.specs.declared.entry.Entry.{Entry}
 use Rattle.mpb_spec.specs.Plan.{Plan}
-use Rattle.mpb_bus.specs.declared.held.Held.{Held}
 use Rattle.mpb_bus.specs.declared.view.AgentView.{AgentView}
 use Rattle.mpb_bus.specs.declared.view.SeatView.{SeatView}
-use Rattle.mpb_bus.specs.Agents.{agents_of, IsPrefix}
+use Rattle.mpb_bus.specs.Agents.{IsPrefix}
 use Rattle.mpb_bus.specs.Rule.{Slot, resting, holding, taken, over_agents, one_if, AgentFits, ViewFits, IsEven, IsOdd, IsKept, Took, Takes}
 use Rattle.mpb_bus.proofs.Lists.{sum_set, sum_at, set_at, each_set}
 use Rattle.mpb_bus.proofs.Journals.{prefix_refl}

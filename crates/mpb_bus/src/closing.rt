@@ -58,10 +58,12 @@ pub(crate) fn settle(words: Words, all: Seat<Option<Held>, SeatView>) -> Board
     let mut closed = words.close_with(all);
     let slot = closed.take(0);
     closed.free();
-    let Some(Held {
-        board,
-        out_of_memory: _,
-    }) = slot
+    let Some(
+        Held {
+            board,
+            out_of_memory: _,
+        },
+    ) = slot
     else {
         unreachable!()
     };

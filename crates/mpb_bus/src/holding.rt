@@ -38,11 +38,7 @@ fn win<R: Wait>(words: &Words, rt: &R, seat: &mut Seat<Option<Held>, SeatView>)
 }
 
 /// Takes the turn, and the board out of its slot.
-pub(crate) fn take<R: Wait>(
-    words: &Words,
-    rt: &R,
-    seat: &mut Seat<Option<Held>, SeatView>,
-) -> Held
+pub(crate) fn take<R: Wait>(words: &Words, rt: &R, seat: &mut Seat<Option<Held>, SeatView>) -> Held
     requires words { (words.now.shared.table_id.words ≡ 1) × (seat.old.table_id ≡ words.now.shared.table_id) }
     requires free { seat.old.me ≡ (resting (agent_of seat.old.me.0), []) }
     ensures seat { seat.new.table_id ≡ seat.old.table_id }

@@ -37,15 +37,7 @@ pub fn two_processors(alloc: Global, words: &[Op]) -> Result<Option<Config>, All
     let mut cpus = Vec::new(alloc);
     cpus.push(processor(alloc, 0, program.as_slice())?)?;
     cpus.push(processor(alloc, 1, words)?)?;
-    Ok(config_of(
-        0x9F,
-        0,
-        7,
-        cpus,
-        Vec::new(alloc),
-        false,
-        Vec::new(alloc),
-    ))
+    Ok(config_of(0x9F, 0, 7, cpus, Vec::new(alloc), false, Vec::new(alloc)))
 }
 
 /// One processor and one I/O APIC of id 1, whose pin 1 the boot program unmasks with vector 21h as an

@@ -18,9 +18,7 @@ fn offer_of(op: Op) -> Offer {
 
 /// Whether two entries are the same.
 fn same(one: &Entry, two: &Entry) -> bool {
-    one.agent == two.agent
-        && one.op == two.op
-        && one.outcomes.as_slice() == two.outcomes.as_slice()
+    one.agent == two.agent && one.op == two.op && one.outcomes.as_slice() == two.outcomes.as_slice()
 }
 
 /// Whether a new board of the config makes these entries, one after the other, and is then at its end.

@@ -1,7 +1,5 @@
 use Rattle.std.proofs.Common.{◌≡◌, ◌∙◌, sym, ap, subst, Some, All, Any}
 use mathlib.Core.Option.{some-injective}
-use Rattle.mpb_spec.specs.Plan.{Plan}
-use Rattle.mpb_board.specs.BoardView.{BoardView}
 use Rattle.mpb_bus.specs.declared.held.Held.{Held}
 use Rattle.mpb_bus.specs.Rule.{AgentFits}
 use Rattle.mpb_bus.proofs.Ends.{settles, held_same}

@@ -1,5 +1,4 @@
-use Rattle.std.proofs.Common.{◌≡◌, ◌∙◌, arith, ap, subst, sym}
-use Rattle.mpb_bus.specs.Rule.{agent_of}
+use Rattle.std.proofs.Common.{◌∙◌, arith, ap}
 use Rattle.mpb_bus.proofs.Moves.{joins_views}
 use Rattle.mpb_bus.proofs.closing.take_agent.Goals as goal
 

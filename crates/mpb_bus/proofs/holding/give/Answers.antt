@@ -1,7 +1,7 @@
 use Rattle.std.proofs.Common.{arith, ◌≡◌, ◌∙◌, ◌*◌, sym, ap, subst, [], ◌∷◌, Some, length}
 use mathlib.Core.Option.{none}
 use Rattle.atomic_table.specs.Table.{Allows, step, rest}
-use Rattle.mpb_bus.specs.Rule.{agent_of, holding, resting, given, journal_in, IsKept, Gives, Sat}
+use Rattle.mpb_bus.specs.Rule.{agent_of, holding, IsKept, Gives, Sat}
 use Rattle.mpb_bus.proofs.Gives.{gives_allowed}
 use Rattle.mpb_bus.proofs.holding.give.Goals as goal
 

@@ -1,4 +1,4 @@
-use Rattle.std.proofs.Common.{◌≡◌, ◌∙◌, List, All, get_or, length, map, sym, ap, subst, arith}
+use Rattle.std.proofs.Common.{◌≡◌, ◌∙◌, List, get_or, length, sym, ap, subst, arith}
 use Rattle.mpb_bus.specs.Seats.{AgentSeat, AreSeatsOf}
 use Rattle.mpb_bus_rows.proofs.Lists.{written_back, kept_agents}
 use Rattle.mpb_bus_rows.proofs.crew.work_all.Goals as goal

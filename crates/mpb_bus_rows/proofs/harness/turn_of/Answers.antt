@@ -1,5 +1,4 @@
-use Rattle.std.proofs.Common.{rules, ◌≡◌, ◌∙◌, sym, ap}
-use Rattle.mpb_bus.specs.Seats.{AgentSeat}
+use Rattle.std.proofs.Common.{rules, ap}
 use Rattle.mpb_bus_rows.proofs.Lists.{one_put_back}
 use Rattle.mpb_bus_rows.proofs.harness.turn_of.Goals as goal
 

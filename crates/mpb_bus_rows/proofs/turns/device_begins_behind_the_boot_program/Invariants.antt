@@ -1,4 +1,3 @@
-use Rattle.std.proofs.Common.{◌≡◌}
 use Rattle.mpb_bus.specs.Seats.{AreSeatsOf}
 use Rattle.mpb_bus_rows.proofs.turns.device_begins_behind_the_boot_program.Given as goal
 

@@ -1,4 +1,3 @@
-use Rattle.std.proofs.Common.{◌≡◌}
 use Rattle.mpb_bus.specs.Seats.{AreSeatsOf}
 use Rattle.mpb_bus_rows.proofs.turns.eighth_turn_is_quiet.Given as goal
 

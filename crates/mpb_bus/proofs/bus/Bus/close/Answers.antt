@@ -1,4 +1,3 @@
-use Rattle.std.proofs.Common.{◌≡◌, ◌∙◌, sym, ap}
 use Rattle.mpb_bus.proofs.Answered.{all_begin, all_own, all_quiet, some_whole}
 use Rattle.mpb_bus.proofs.bus.Bus.close.Goals as goal
 

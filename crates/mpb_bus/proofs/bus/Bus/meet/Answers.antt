@@ -1,10 +1,9 @@
-use Rattle.std.proofs.Common.{◌≡◌, ◌∙◌, ◌∷◌, ◌⊎◌, All, [], List, arith, sym, ap, subst}
+use Rattle.std.proofs.Common.{◌≡◌, ◌∙◌, ◌∷◌, All, [], arith, sym, ap, subst}
 use Rattle.atomic_table.specs.Table.{Splits, Joins}
-use Rattle.mpb_spec.specs.declared.entry.Entry.{Entry}
 use Rattle.mpb_bus.specs.declared.view.AgentView.{AgentView}
 use Rattle.mpb_bus.specs.declared.view.SeatView.{SeatView}
 use Rattle.mpb_bus.specs.Agents.{IsPrefix}
-use Rattle.mpb_bus.specs.Rule.{Sat, agent_of, given, hearing, heard, nobody, resting, taken, telling, IsKept}
+use Rattle.mpb_bus.specs.Rule.{Sat, agent_of, hearing, heard, nobody, telling, IsKept}
 use Rattle.mpb_bus.proofs.Journals.{prefixes_order}
 use Rattle.mpb_bus.proofs.Moves.{hears, tells_seen}
 use Rattle.mpb_bus.proofs.bus.Bus.meet.Goals as goal
@@ -56,5 +55,5 @@ returns-clause-order g c =
     let joined : agent_of c.join_seat.new.seat.me.0 ≡ hearing seen two = ap (λ (m : Sat). agent_of m.0) c.join_seat.ensures.2 ∙ ap (λ (m : Sat). hearing m.0.told two) c.split_seat-told.ensures.4 in
     let olds = subst (λ (x : AgentView). All (λ xs. IsPrefix xs b.journal) x.olds) joined c.take-held.ensures.fits.olds in
     prefixes_order c.args.one.now.seen c.args.two.now.seen b.journal
-        (subst (λ l. IsPrefix l b.journal) (ap (λ s. s.seen) c.one.view_is) (olds 0 [] (omega arith)))
-        (subst (λ l. IsPrefix l b.journal) (ap (λ s. s.seen) c.two.view_is) (olds 1 [] (omega arith)))
+    (subst (λ l. IsPrefix l b.journal) (ap (λ s. s.seen) c.one.view_is) (olds 0 [] (omega arith)))
+    (subst (λ l. IsPrefix l b.journal) (ap (λ s. s.seen) c.two.view_is) (olds 1 [] (omega arith)))

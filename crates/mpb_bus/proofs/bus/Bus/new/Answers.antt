@@ -11,4 +11,4 @@ returns-clause-all c =
     let start = words.shared.key.value in
     let bus : SharedBus = record { bus = words.shared.table_id; plan = start.plan } in
     fresh_are_all bus start.journal c.as_slice.result.now c.in_ok-seats.seats.items c.in_ok-seats.ensures
-        (c.as_slice.ensures.value ∙ c.in_ok-agents.ensures ∙ ap agents_of c.config.ensures.same ∙ sym (ap (λ (b : BoardView). agents_of b.plan) c.in_ok-words.ensures.table.2))
+    (c.as_slice.ensures.value ∙ c.in_ok-agents.ensures ∙ ap agents_of c.config.ensures.same ∙ sym (ap (λ (b : BoardView). agents_of b.plan) c.in_ok-words.ensures.table.2))
