@@ -6,3 +6,4 @@ pub mod Moves
 pub mod Ends
 pub mod Starts
 pub mod Answered
+pub mod Seated

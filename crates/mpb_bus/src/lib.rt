@@ -6,6 +6,7 @@ mod bus;
 mod closing;
 mod held;
 mod holding;
+mod laws;
 mod opening;
 mod rule;
 mod seat;
@@ -14,5 +15,6 @@ mod turn;
 mod view;
 
 pub use bus::Bus;
+pub use laws::agents_that_may_step_have_seats;
 pub use seat::BusSeat;
 pub use turn::Turn;
