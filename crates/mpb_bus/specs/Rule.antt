@@ -1,5 +1,15 @@
 -- The rule of the shared bus, which only this crate's private functions cite: this project's own.
 -- The one word is twice the length of the journal, and one more while a seat holds the board.
+--     resting, holding, nobody                the views of an agent without the board, of one with it, and of none
+--     agent_of v                              the first agent of a view
+--     fresh_agent, opening_view               an agent at first, and the view of all
+--     taken, given                            an agent that takes the turn, and that gives it back
+--     without_agent, first_agent, together    views cut in two, and put together
+--     telling, hearing, heard                 what one seat has seen is told to another
+--     over_agents f views                     something of each agent, added up over all views
+--     AgentFits, ViewFits                     what is known fits a journal
+--     IsEven, IsOdd, IsKept                   the rule, by the word
+--     Takes, Gives                            what a take and a give tell
 use Rattle.std.specs.Prelude.{◌≡◌, ◌≢◌, ◌⊎◌, ℕ, ◌+◌, ◌*◌, ◌<◌, ◌≤◌, ◌==◌, if◌then◌else◌, Bool, true, false, List, [], ◌∷◌, ◌++◌, map, length, drop, slice_index, slice_index_or, All, sum_by, Option, Some, None}
 use mathlib.Core.Option.{some}
 use lib.ListN.{get_elem?}
@@ -23,13 +33,15 @@ Slot = Option Held
 abbrev pub no_agent : AgentView
 no_agent = record { agent = Cpu 0; config = record { boot = 0; boot_len = 0; cpus = []; ios = []; imcr = false; devices = [] }; seen = []; mine = []; turns = 0; olds = [] }
 
--- the views of one agent, without the board and with it, and of none
+-- the view of one agent that doesn't hold the board
 abbrev pub resting : AgentView → SeatView
 resting a = record { agents = a ∷ []; told = []; holds = false }
 
+-- the view of one that does
 abbrev pub holding : AgentView → SeatView
 holding a = record { agents = a ∷ []; told = []; holds = true }
 
+-- the view of no agent
 abbrev pub nobody : SeatView
 nobody = record { agents = []; told = []; holds = false }
 
@@ -37,39 +49,45 @@ nobody = record { agents = []; told = []; holds = false }
 abbrev pub agent_of : SeatView → AgentView
 agent_of v = slice_index_or v.agents 0 no_agent
 
--- what the seat shows of it, and what is known of it by what the seat shows
+-- what the seat shows of it
 abbrev pub shown_agent : TableId → AgentView → AgentSeat
 shown_agent bus a = record { bus = bus; agent = a.agent; plan = a.config; seen = a.seen; mine = a.mine; turns = a.turns; olds = a.olds }
 
+-- what is known of it by what the seat shows
 abbrev pub known_agent : AgentSeat → AgentView
 known_agent s = record { agent = s.agent; config = s.plan; seen = s.seen; mine = s.mine; turns = s.turns; olds = s.olds }
 
--- the first view, of all agents, none of which has taken the turn
+-- an agent that has seen the journal and hasn't taken the turn yet
 abbrev pub fresh_agent : Plan → List Entry → Agent → AgentView
 fresh_agent c journal g = record { agent = g; config = c; seen = journal; mine = entries_of g journal; turns = 0; olds = [] }
 
+-- the first view, of all agents
 abbrev pub opening_view : Plan → List Entry → SeatView
 opening_view c journal = record { agents = map (fresh_agent c journal) (agents_of c); told = []; holds = false }
 
--- an agent that has won the turn sees the journal, and one that gives it back sees what was added
+-- an agent that has won the turn sees the journal
 abbrev pub taken : List Entry → AgentView → AgentView
 taken journal a = record { agent = a.agent; config = a.config; seen = journal; mine = a.mine; turns = a.turns + 1; olds = a.olds }
 
+-- one that gives it back sees what was added
 abbrev pub given : List Entry → AgentView → AgentView
 given journal a = record { agent = a.agent; config = a.config; seen = journal; mine = a.mine ++ drop (length a.seen) journal; turns = a.turns; olds = a.olds }
 
--- the two parts of a view that is cut behind its first agent
+-- a list without its first member
 abbrev pub rest_of : {A : Type 0} → List A → List A
 rest_of [] = []
 rest_of (x ∷ xs) = xs
 
+-- its first member alone
 abbrev pub first_of_list : {A : Type 0} → List A → List A
 first_of_list [] = []
 first_of_list (x ∷ xs) = x ∷ []
 
+-- a view that is cut behind its first agent: what is left
 abbrev pub without_agent : SeatView → SeatView
 without_agent v = record { agents = rest_of v.agents; told = v.told; holds = false }
 
+-- and what is cut off
 abbrev pub first_agent : SeatView → SeatView
 first_agent v = record { agents = first_of_list v.agents; told = []; holds = false }
 
@@ -77,13 +95,15 @@ first_agent v = record { agents = first_of_list v.agents; told = []; holds = fal
 abbrev pub together : SeatView → SeatView → SeatView
 together v w = record { agents = v.agents ++ w.agents; told = v.told ++ w.told; holds = false }
 
--- a view without an agent, which tells what the first agent has seen, and an agent that hears it
+-- a view without an agent, which tells what the first agent has seen
 abbrev pub telling : SeatView → SeatView
 telling v = record { agents = []; told = (agent_of v).seen ∷ []; holds = false }
 
+-- an agent that hears it
 abbrev pub hearing : List (List Entry) → AgentView → AgentView
 hearing told a = record { agent = a.agent; config = a.config; seen = a.seen; mine = a.mine; turns = a.turns; olds = told ++ a.seen ∷ [] }
 
+-- the view of such an agent, when it is told by another view
 abbrev pub heard : SeatView → SeatView → SeatView
 heard v w = resting (hearing w.told (agent_of v))
 
