@@ -6,7 +6,7 @@ use Rattle.mpb_spec.specs.declared.agent.Op.{Op}
 use Rattle.mpb_spec.specs.declared.entry.Entry.{Entry}
 use Rattle.mpb_spec.specs.Plan.{Plan}
 use Rattle.mpb_spec.specs.State.{BoardState}
-use Rattle.mpb_spec.specs.Journal.{IsLegal, final_state_of}
+use Rattle.mpb_spec.specs.Journal.{IsLegal, IsComplete, final_state_of}
 use Rattle.mpb_spec.specs.May.{MayStep, MayAny, IsQuiescent}
 use Rattle.mpb_laws.proofs.JournalLemmas.{next_may}
 use Rattle.mpb_board.specs.BoardView.{BoardView, state_of}
@@ -86,6 +86,14 @@ module _ (c : Plan) (journal : List Entry) (seats : List AgentSeat) (agents : Li
       let s = get_or seats k d in
       let f = fits_seats k d l in
       quiet_whole c s.seen journal f.seen legal (subst (λ p. IsQuiescent (final_state_of p s.seen)) f.config quiet)
+
+  pub all_complete : IsLegal c journal → All (λ s. IsQuiescent (state_seen s) → IsComplete c journal) seats
+  all_complete legal k d l quiet =
+      let s = get_or seats k d in
+      record { legal = legal; quiescent = subst (λ (x : Plan × List Entry). IsQuiescent (final_state_of x.0 x.1)) (λ i. ((fits_seats k d l).config i, all_quiet legal k d l quiet i)) quiet }
+
+  pub all_planned : All (λ s. s.plan ≡ c) seats
+  all_planned k d l = (fits_seats k d l).config
 
   pub some_whole : Any (λ a. a.seen ≡ journal) agents → Any (λ s. s.seen ≡ journal) seats
   some_whole any = any_mapped (λ (a : AgentView). a.seen ≡ journal) known_agent seats agents same any

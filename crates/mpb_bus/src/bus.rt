@@ -3,7 +3,7 @@
 ghost use Rattle.std.specs.Prelude.{◌≡◌, ◌+◌, ◌++◌, ◌∷◌, ◌⊎◌, [], map, All, Any, IfOk};
 ghost use Rattle.mpb_spec.specs.declared.agent.Agent.{Agent as AnAgent};
 ghost use Rattle.mpb_spec.specs.declared.entry.Entry.{Entry as AnEntry};
-ghost use Rattle.mpb_spec.specs.Journal.{IsLegal};
+ghost use Rattle.mpb_spec.specs.Journal.{IsComplete, IsLegal};
 ghost use Rattle.mpb_spec.specs.May.{IsQuiescent, MayAny, MayStep};
 ghost use Rattle.mpb_bus.specs.declared.turn.Turn.TheVariants.{Done, Idle, Quiet};
 ghost use Rattle.mpb_bus.specs.Agents.{IsPrefix, agents_of, entries_of};
@@ -103,7 +103,9 @@ impl Bus {
         ensures prefix { All (λ s. IsPrefix s.seen result.journal) seats.items }
         ensures longest { Any (λ s. s.seen ≡ result.journal) seats.items }
         ensures mine { All (λ s. s.mine ≡ entries_of s.agent result.journal) seats.items }
+        ensures plans { All (λ s. s.plan ≡ result.plan) seats.items }
         ensures quiet { All (λ s. IsQuiescent (state_seen s) → s.seen ≡ result.journal) seats.items }
+        ensures complete { All (λ s. IsQuiescent (state_seen s) → IsComplete result.plan result.journal) seats.items }
     {
         let Bus { words } = self;
         let all = take_all(&words, seats);
