@@ -1,5 +1,5 @@
 -- What the laws say of boards: the tables of an image of bytes and a script have one trace, and some boot.
-use Rattle.std.proofs.Common.{◌≡◌, ℕ, ◌<◌, ◌^◌, Bool, true, false, cond, List, [], ◌∷◌, filter, filter_map, map, Option, Some, None, refl, sym, ap, ◌∙◌, subst, arith}
+use Rattle.std.proofs.Common.{◌≡◌, ℕ, ◌<◌, ◌^◌, Bool, true, false, cond, List, [], ◌∷◌, filter, filter_map, map, None, refl, sym, ap, ◌∙◌, arith}
 use Rattle.std.specs.List.{AllByRecursion}
 use Rattle.mpt_spec.specs.declared.entry.Processor.{Processor}
 use Rattle.mpt_spec.specs.declared.entry.Base.{Base}
@@ -9,7 +9,6 @@ use Rattle.mpt_spec.specs.declared.tables.Body.TheVariants as body
 use Rattle.mpt_spec.specs.declared.tables.Tables.{Tables}
 use Rattle.mpt_spec.specs.Values.{IsBaseValue, IsBodyValue, IsTablesValue}
 use Rattle.mpt_route.specs.Platform.{platform_of, platform_of_body, processor_in}
-use Rattle.mpt_route.specs.Defaults.{default_row}
 use Rattle.mpb_spec.specs.declared.entry.Entry.{Entry}
 use Rattle.mpb_spec.specs.Plan.{Plan, plan_size}
 use Rattle.mpb_spec.specs.Configs.{IsConfig, IsStartableAt}
@@ -24,7 +23,6 @@ use Rattle.mpb_setup.proofs.RoomLemmas.{config_small}
 use Rattle.mpb_start_laws.proofs.StartedOnce.{started_once}
 use Rattle.mpb_latch.specs.declared.pulse.Pulse.{Pulse}
 use Rattle.mpb_latch.specs.declared.pulse.Hit.{Hit}
-use Rattle.mpb_run_laws.specs.RoundRobin.{IsRoundRobinOf}
 use Rattle.mpb_run_laws.proofs.OneEnd.{some_end, same_end}
 use Rattle.mpb_run_laws.proofs.AtTheEnd.{is_complete, is_accounted}
 use Rattle.mpb_report.specs.Report.{report_of}

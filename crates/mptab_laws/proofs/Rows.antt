@@ -1,9 +1,8 @@
 -- The rows of the laws: what a new form or a new kind of file adds.
-use Rattle.std.proofs.Common.{get_or, ◌≡◌, ℕ, ◌+◌, ◌^◌, ◌≤◌, ◌<◌, List, [], ◌∷◌, length, Option, Some, None, IfSome, IsSomeAnd, refl, sym, subst, ◌∙◌, ap, inl, inr, ◌⊎◌, arith}
+use Rattle.std.proofs.Common.{get_or, ◌≡◌, ℕ, ◌^◌, ◌≤◌, ◌<◌, List, [], ◌∷◌, length, Option, Some, None, IfSome, IsSomeAnd, refl, sym, subst, ◌∙◌, ap, inl, inr, ◌⊎◌, arith}
 use Rattle.std.specs.Prelude.{codes, ⊤}
 use Rattle.std.specs.List.{AllByRecursion}
 use Rattle.mpt_base.specs.Outside.{Files}
-use Rattle.mpt_base.specs.declared.fault.Reason.{Reason}
 use Rattle.mpt_spec.specs.declared.tables.Tables.{Tables}
 use Rattle.mpt_spec.specs.Search.{HasPointerAt, HasNoPointer, search_places}
 use Rattle.mpt_spec.specs.Table.{Describes}
@@ -38,17 +37,15 @@ use Rattle.mpb_script.specs.declared.script.Script.{Script as AScript}
 use Rattle.mpb_script.specs.declared.script.ScriptFault.{ScriptFault}
 use Rattle.mpb_script.specs.declared.script.ScriptFault.TheVariants as script_fault
 use Rattle.mpb_script.specs.Script.{IsScriptOf, HasFault}
-use Rattle.mpb_script.specs.Values.{HasScriptValues}
 use Rattle.mpb_script.proofs.AnswerLemmas.{HasFault-unique, IsScriptOf-no_fault, IsScriptOf-unique}
 use Rattle.mpb_script.proofs.ValueLemmas.{IsScriptOf-values}
 use Rattle.mpb_script_laws.specs.Laws.{IsScript, IsRefused as IsScriptRefused}
 use Rattle.mpb_script_laws.proofs.Judgment.{judged}
-use Rattle.mpb_boot.specs.Boot.{board_of, fault_of, IsTraceOf, IsBootOf}
+use Rattle.mpb_boot.specs.Boot.{board_of, fault_of, IsTraceOf}
 use Rattle.mpb_boot.specs.Lines.{script_fault_line, board_fault_line, IsScriptFault}
 use Rattle.mptab_laws.proofs.BoardRows.{trace_some, boot_some, trace_one}
-use Rattle.mptab_calls.specs.Forms.{Form, Show, Audit, Canon, Build, Route, Trace, Boot, Named, Image, Listing, Script, IsForm, IsAny, IsStill, source_of, files_of, name_of, limit_of, IsRead}
-use Rattle.mptab_calls.specs.Commands.{fault_line, no_pointer_line, bad_line_line, unfit_line, status_of, GivesTables, GivesScript, IsUnderstood, IsRefused, IsAnswerTo, IsAnswerBy, IsBoardAnswer, IsText}
-use Rattle.mptab_calls.specs.Walk.{IsListed, IsNoForm}
+use Rattle.mptab_calls.specs.Forms.{Form, Show, Audit, Canon, Build, Route, Trace, Boot, Named, Image, Listing, Script, IsForm, IsStill, source_of, files_of, name_of, limit_of, IsRead}
+use Rattle.mptab_calls.specs.Commands.{fault_line, no_pointer_line, bad_line_line, unfit_line, status_of, GivesTables, GivesScript, IsUnderstood, IsRefused, IsAnswerTo, IsAnswerBy, IsText}
 use Rattle.mptab_laws.specs.Laws.{AreBytesTold, HasOneText}
 
 -- ---- a file that is read
@@ -211,7 +208,6 @@ file_judged files (Listing name) b ready e within = by_case (every_text b)
     by_case : ((t : Tables) × IsListingOf t b) ⊎ ((n : ℕ) × (w : LineWhy) × IsFirstBadLine IsListing b n w) → IsUnderstood (Some files) (Listing name) ⊎ ((s : ℕ) × (u : List ℕ) × IsRefused (Some files) (Listing name) s u)
     by_case (inl d) = fit d.0 d.1 (fits_decided d.0)
     by_case (inr f) = inr (8, bad_line_line f.0 f.1, inl (refl, f.0, f.1, IsRead-of files (Listing name) (λ listing. IsFirstBadLine IsListing listing f.0 f.1) b e within f.2, refl))
-
 file_judged files (Script image name) b ready e within = by_case (judged b)
   where
     board : (s : AScript) → GivesScript (Some files) (Script image name) s → (x : Option BoardError) → fault_of ready.0 s ≡ x → IsUnderstood (Some files) (Script image name) ⊎ ((n : ℕ) × (u : List ℕ) × IsRefused (Some files) (Script image name) n u)

@@ -1,16 +1,16 @@
 -- The walk has an answer, and one alone. Nothing here names a command.
-use Rattle.std.proofs.Common.{◌≡◌, ℕ, ◌≤◌, ◌<◌, ◌⊎◌, Bool, true, false, List, [], ◌∷◌, length, Option, Some, None, refl, sym, subst, ◌∙◌, ap, inl, inr, arith, nat_lt}
+use Rattle.std.proofs.Common.{◌≡◌, ℕ, ◌≤◌, ◌<◌, ◌⊎◌, List, [], ◌∷◌, length, Option, Some, None, refl, sym, subst, ◌∙◌, ap, inl, inr, arith}
 use Rattle.std.specs.Prelude.{option_map, ⊤}
 use Rattle.std.specs.List.{AllByRecursion}
 use Rattle.std.proofs.lemmas.Bool.{cases_lt}
 use Rattle.mpt_base.specs.Outside.{Files}
 use Rattle.mpt_laws.proofs.EntryJudgment.{Decided}
 use Rattle.mptab_calls.specs.Texts.{usage_line, no_file_line, too_large_line}
-use Rattle.mptab_calls.specs.Forms.{Form, Named, IsForm, IsStill, IsAny, files_of, name_of, limit_of, IsRead}
-use Rattle.mptab_calls.specs.Commands.{IsUnderstood, IsRefused, IsText}
-use Rattle.mptab_calls.specs.Walk.{IsAnswer, IsAnswerOf, EndsAt, Reaches, IsListed, IsNoForm}
-use Rattle.mptab_laws.specs.Laws.{AreBytesTold, HasOneText, HaveOneText}
-use Rattle.mptab_laws.proofs.Rows.{refused_read, understood_read, refused_not_understood, refused_one, file_judged, text_one, text_given, same_form, form_judged, still_judged, IsRead-bytes, IsReady, AreReady, form_ready}
+use Rattle.mptab_calls.specs.Forms.{Form, Named, IsForm, files_of, name_of, limit_of}
+use Rattle.mptab_calls.specs.Commands.{IsUnderstood, IsRefused}
+use Rattle.mptab_calls.specs.Walk.{IsAnswer, IsAnswerOf, EndsAt, Reaches}
+use Rattle.mptab_laws.specs.Laws.{AreBytesTold, HasOneText}
+use Rattle.mptab_laws.proofs.Rows.{refused_read, understood_read, refused_not_understood, refused_one, file_judged, text_one, text_given, same_form, form_judged, IsRead-bytes, IsReady, AreReady, form_ready}
 
 -- ---- one
 
