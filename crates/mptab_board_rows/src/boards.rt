@@ -29,7 +29,13 @@ const IDS: &[Row] = &[
     },
     Row {
         name: "two ids doubled, the greater first",
-        tables: Tables::Listed(&[Entry::Boot(0), Entry::Cpu(3), Entry::Cpu(5), Entry::Cpu(5), Entry::Cpu(3)]),
+        tables: Tables::Listed(&[
+            Entry::Boot(0),
+            Entry::Cpu(3),
+            Entry::Cpu(5),
+            Entry::Cpu(5),
+            Entry::Cpu(3),
+        ]),
         script: "page = 0x9F\n",
         status: 11,
         text: "mptab: board double id 03\n",
@@ -60,7 +66,13 @@ entries 7
     },
     Row {
         name: "two ids of I/O APICs doubled, the greater first",
-        tables: Tables::Listed(&[Entry::Boot(0), Entry::Io(7), Entry::Io(2), Entry::Io(7), Entry::Io(2)]),
+        tables: Tables::Listed(&[
+            Entry::Boot(0),
+            Entry::Io(7),
+            Entry::Io(2),
+            Entry::Io(7),
+            Entry::Io(2),
+        ]),
         script: "page = 0x9F\n",
         status: 11,
         text: "mptab: board double id 02\n",
@@ -87,7 +99,13 @@ entries 1
     },
     Row {
         name: "doubled ids of processors before those of I/O APICs",
-        tables: Tables::Listed(&[Entry::Boot(0), Entry::Cpu(9), Entry::Cpu(9), Entry::Io(2), Entry::Io(2)]),
+        tables: Tables::Listed(&[
+            Entry::Boot(0),
+            Entry::Cpu(9),
+            Entry::Cpu(9),
+            Entry::Io(2),
+            Entry::Io(2),
+        ]),
         script: "page = 0x9F\n",
         status: 11,
         text: "mptab: board double id 09\n",

@@ -77,7 +77,12 @@ state imcr none
     },
     Row {
         name: "5 I/O APICs of which one is disabled",
-        tables: Tables::Listed(&[Entry::Boot(0), Entry::Ios(0, 1), Entry::IoOff(2), Entry::Ios(3, 4)]),
+        tables: Tables::Listed(&[
+            Entry::Boot(0),
+            Entry::Ios(0, 1),
+            Entry::IoOff(2),
+            Entry::Ios(3, 4),
+        ]),
         script: "page = 0x9F\n",
         status: 0,
         text: "mpboot 1

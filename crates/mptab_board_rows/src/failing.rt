@@ -36,10 +36,22 @@ const WORDS: &[(&[&str], u8, &str)] = &[
     (&["trace", "x", SCRIPT], 3, "mptab: no file x\n"),
     (&["boot", "x", "y"], 3, "mptab: no file x\n"),
     (&["trace", "zeros", "x"], 6, "mptab: no floating pointer\n"),
-    (&["boot", "zeros", SCRIPT], 6, "mptab: no floating pointer\n"),
+    (
+        &["boot", "zeros", SCRIPT],
+        6,
+        "mptab: no floating pointer\n",
+    ),
     (&["trace", SCRIPT, IMAGE], 6, "mptab: no floating pointer\n"),
-    (&["trace", "bad", "x"], 7, "mptab: fault 2 BadDefault at 0000040B\n"),
-    (&["boot", "bad", SCRIPT], 7, "mptab: fault 2 BadDefault at 0000040B\n"),
+    (
+        &["trace", "bad", "x"],
+        7,
+        "mptab: fault 2 BadDefault at 0000040B\n",
+    ),
+    (
+        &["boot", "bad", SCRIPT],
+        7,
+        "mptab: fault 2 BadDefault at 0000040B\n",
+    ),
     (&["trace", IMAGE, IMAGE], 8, "mptab: script not toml\n"),
     (&["trace", IMAGE, SCRIPT], 0, NOTHING),
     (&["boot", IMAGE, SCRIPT], 0, NOTHING),
@@ -100,6 +112,7 @@ fn long_answer(alloc: Global, command: &str, call: u64, put: u64) -> Result<Answ
 }
 
 const IMAGE_UNREAD: &str = "mptab: cannot read board.img\n";
+
 const SCRIPT_UNREAD: &str = "mptab: cannot read boot.toml\n";
 
 /// A call of the shelf that fails, the status and the line: of the image its size, two words, the EBDA's area,

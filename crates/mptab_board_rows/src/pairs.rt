@@ -24,7 +24,12 @@ cpu = [{ id = 0, words = [\"iosel 2 1\", \"ioread 1\"] }]
     },
     Row {
         name: "a doubled id, and id 255",
-        tables: Tables::Listed(&[Entry::Boot(0), Entry::Cpu(0xFF), Entry::Cpu(3), Entry::Cpu(3)]),
+        tables: Tables::Listed(&[
+            Entry::Boot(0),
+            Entry::Cpu(0xFF),
+            Entry::Cpu(3),
+            Entry::Cpu(3),
+        ]),
         script: "page = 0x9F\n",
         status: 11,
         text: "mptab: board double id 03\n",

@@ -15,7 +15,8 @@ ioint kind 00 flags 0000 bus 01 irq 01 dest 04 pin 01
 /// A usual board: two processors, a PCI and an ISA bus, 17 interrupts.
 const USUAL: Tables = Tables::Listed(&[Entry::Lines(USUAL_ENTRIES)]);
 
-const USUAL_ENTRIES: &str = "processor id 00 version 14 flags 03 signature 00000600 features 00000201 reserved 0000000000000000
+const USUAL_ENTRIES: &str =
+    "processor id 00 version 14 flags 03 signature 00000600 features 00000201 reserved 0000000000000000
 processor id 01 version 14 flags 01 signature 00000600 features 00000201 reserved 0000000000000000
 bus id 00 name \"PCI   \"
 bus id 01 name \"ISA   \"
@@ -213,7 +214,13 @@ end
     },
     Row {
         name: "IMCRP; pins of two I/O APICs, one named twice, in the order of their entries, high word first",
-        tables: Tables::WithImcr(&[Entry::Boot(3), Entry::Lines("bus id 00 name \"PCI   \"\nbus id 01 name \"ISA   \"\n"), Entry::Io(4), Entry::Io(8), Entry::Lines(SOURCES)]),
+        tables: Tables::WithImcr(&[
+            Entry::Boot(3),
+            Entry::Lines("bus id 00 name \"PCI   \"\nbus id 01 name \"ISA   \"\n"),
+            Entry::Io(4),
+            Entry::Io(8),
+            Entry::Lines(SOURCES),
+        ]),
         script: "page = 0x9F\n",
         status: 0,
         text: "mpboot 1
@@ -238,7 +245,12 @@ end
     },
     Row {
         name: "an EISA interrupt that the script's ELCR makes level",
-        tables: Tables::Listed(&[Entry::Boot(0), Entry::Lines("bus id 00 name \"EISA  \"\n"), Entry::Io(1), Entry::Lines("ioint kind 00 flags 0000 bus 00 irq 01 dest 01 pin 01\n")]),
+        tables: Tables::Listed(&[
+            Entry::Boot(0),
+            Entry::Lines("bus id 00 name \"EISA  \"\n"),
+            Entry::Io(1),
+            Entry::Lines("ioint kind 00 flags 0000 bus 00 irq 01 dest 01 pin 01\n"),
+        ]),
         script: "page = 0x9F
 elcr = 2
 ",

@@ -1,6 +1,6 @@
 //! Scripts that are refused, each key and each word's cause, and scripts at their limits.
 
-use crate::harness::{answer_to, Row, first_wrong};
+use crate::harness::{Row, answer_to, first_wrong};
 use crate::tables::{Entry, Tables};
 use std::alloc::Global;
 use std::test::Fail;

@@ -34,7 +34,9 @@ pub(crate) enum Entry {
 }
 
 const POINTER: &str = "mptable 1\npointer at 000F0000 table 000F0010 revision 04 features ";
+
 const DEFAULT: &str = "mptable 1\npointer at 0009FC00 table 00000000 revision 04 features ";
+
 const HEADER: &str =
     "\nheader revision 04 oem \"MPTAB   \" product \"BOARD       \" oemtable 00000000 oemsize 0000 local FEE00000 reserved 00\n";
 
