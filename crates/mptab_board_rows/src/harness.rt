@@ -1,6 +1,6 @@
 //! What every theme stands on: a row, the image of its tables, and the answer of the top call.
 
-use crate::tables::{Tables, listing_of};
+use crate::tables::{Entry, Tables, listing_of};
 use mpt_base::{MemShelf, MemSink};
 use mptab_calls::run_still;
 use std::alloc::Global;
@@ -11,6 +11,20 @@ pub(crate) const IMAGE: &str = "board.img";
 
 /// The name under which a script lies on the shelf.
 pub(crate) const SCRIPT: &str = "boot.toml";
+
+/// Both commands.
+pub(crate) const BOTH: &[&str] = &["trace", "boot"];
+
+/// One processor.
+pub(crate) const ONE: Tables = Tables::Listed(&[Entry::Boot(0)], "");
+
+/// The report of one processor without words.
+pub(crate) const NOTHING: &str = "mpboot 1
+entries 0
+state imcr none
+state cpu 00 first tpr 00 irr - isr - tmr -
+end
+";
 
 /// The room of a sink: an image of 1 MiB, more than any report of these rows.
 const ROOM: usize = 0x100000;
@@ -34,16 +48,17 @@ pub(crate) struct Answer {
 }
 
 impl Answer {
-    /// Whether it is this status with this text.
+    /// Whether it is this status with this text; where the text is no whole report, with a whole report that
+    /// begins with it.
     pub(crate) fn is(&self, status: u8, text: &str) -> bool {
-        self.status == status && self.text.as_slice() == text.as_bytes()
-    }
-
-    /// Whether it is a whole report that begins with these lines.
-    pub(crate) fn begins(&self, text: &str) -> bool {
-        self.status == 0
-            && self.text.as_slice().starts_with(text.as_bytes())
-            && self.text.as_slice().ends_with(b"\nend\n")
+        let written = self.text.as_slice();
+        if self.status != status {
+            false
+        } else if status == 0 && !text.ends_with("\nend\n") {
+            written.starts_with(text.as_bytes()) && written.ends_with(b"\nend\n")
+        } else {
+            written == text.as_bytes()
+        }
     }
 }
 
@@ -71,30 +86,21 @@ pub(crate) fn answer_of(
     Ok(Answer { status, text })
 }
 
-/// The image that `build` makes of these tables.
-pub(crate) fn image_of(alloc: Global, tables: &Tables) -> Result<Vec<u8>, Fail> {
+/// A shelf with the listing of these tables.
+fn listed(alloc: Global, tables: &Tables) -> Result<MemShelf, Fail> {
     let listing = listing_of(alloc, tables)?;
     let mut shelf = MemShelf::new(alloc);
     shelf.add("list", listing.as_str().as_bytes())?;
-    let answer = answer_of(alloc, &["build", "list"], &mut shelf, 0)?;
-    if answer.status != 0 {
-        return Err("the tables of a row aren't built".into());
-    }
-    Ok(answer.text)
+    Ok(shelf)
 }
 
-/// A shelf with the image of these tables and this script, of which the call of this number fails; 0 is none.
-pub(crate) fn shelf_of(
-    alloc: Global,
-    tables: &Tables,
-    script: &[u8],
-    failing: u64,
-) -> Result<MemShelf, Fail> {
-    let image = image_of(alloc, tables)?;
+/// A shelf with this script and with the image that `build` makes of these tables.
+pub(crate) fn shelf_of(alloc: Global, tables: &Tables, script: &[u8]) -> Result<MemShelf, Fail> {
+    let mut shelf = listed(alloc, tables)?;
+    let built = answer_of(alloc, &["build", "list"], &mut shelf, 0)?;
     let mut shelf = MemShelf::new(alloc);
-    shelf.add(IMAGE, image.as_slice())?;
+    shelf.add(IMAGE, built.text.as_slice())?;
     shelf.add(SCRIPT, script)?;
-    shelf.fail(failing)?;
     Ok(shelf)
 }
 
@@ -105,29 +111,48 @@ pub(crate) fn answer_to(
     tables: &Tables,
     script: &[u8],
 ) -> Result<Answer, Fail> {
-    let mut shelf = shelf_of(alloc, tables, script, 0)?;
+    let mut shelf = shelf_of(alloc, tables, script)?;
     answer_of(alloc, &[command, IMAGE, SCRIPT], &mut shelf, 0)
 }
 
-/// Whether a command answers as the row says.
-fn is_answered(alloc: Global, command: &str, row: &Row) -> Result<bool, Fail> {
-    let answer = answer_to(alloc, command, &row.tables, row.script.as_bytes())?;
-    if row.status == 0 && !row.text.ends_with("\nend\n") {
-        return Ok(answer.begins(row.text));
+/// Whether each command answers as the row says.
+fn is_answered(alloc: Global, commands: &[&str], row: &Row) -> Result<bool, Fail> {
+    for command in commands {
+        let answer = answer_to(alloc, command, &row.tables, row.script.as_bytes())?;
+        if !answer.is(row.status, row.text) {
+            return Ok(false);
+        }
     }
-    Ok(answer.is(row.status, row.text))
+    Ok(true)
 }
 
-/// The name of the first row to which this command has another answer.
+/// The name of the first row to which one of these commands has another answer.
 pub(crate) fn first_wrong(
     alloc: Global,
-    command: &str,
+    commands: &[&str],
     rows: &[Row],
 ) -> Result<Option<&'static str>, Fail> {
     for row in rows {
-        if !is_answered(alloc, command, row)? {
+        if !is_answered(alloc, commands, row)? {
             return Ok(Some(row.name));
         }
     }
     Ok(None)
+}
+
+/// The script with this word so many times for processor 0, and a comment that fills it up to a size.
+pub(crate) fn script_of(
+    alloc: Global,
+    word: &str,
+    times: usize,
+    size: usize,
+) -> Result<Vec<u8>, Fail> {
+    let mut text = Vec::from_slice(alloc, b"page = 0x9F\n[[cpu]]\nid = 0\nwords = [")?;
+    for _ in 0..times {
+        text.extend_from_slice(word.as_bytes())?;
+    }
+    text.extend_from_slice(b"]\n#")?;
+    let rest = vec![in alloc; b' '; size.saturating_sub(text.len())]?;
+    text.extend_from_slice(rest.as_slice())?;
+    Ok(text)
 }

@@ -5,8 +5,6 @@
 #[cfg(test)]
 mod boards;
 #[cfg(test)]
-mod edges;
-#[cfg(test)]
 mod failing;
 #[cfg(test)]
 mod harness;

@@ -1,22 +1,34 @@
 //! Boot programs: of each default configuration, of boards whose reports were worked out whole, and of a
 //! usual board.
 
-use crate::harness::{Row, first_wrong};
+use crate::harness::{BOTH, Row, first_wrong};
 use crate::tables::{Entry, Tables};
 use std::test::Fail;
 
-/// A PCI interrupt at INTIN 16 of the second I/O APIC, the same again, and an ISA interrupt at INTIN 1 of the
-/// first.
-const SOURCES: &str = "ioint kind 00 flags 0000 bus 00 irq 00 dest 08 pin 10
+/// A processor, two I/O APICs, a PCI interrupt at INTIN 16 of the second, the same again, and an ISA interrupt at
+/// INTIN 1 of the first; IMCRP is set.
+const TWO_PINS: Tables = Tables::Text(
+    "mptable 1
+pointer at 000F0000 table 000F0010 revision 04 features 0080000000
+header revision 04 oem \"MPTAB   \" product \"BOARD       \" oemtable 00000000 oemsize 0000 local FEE00000 reserved 00
+processor id 03 version 10 flags 03 signature 00000000 features 00000000 reserved 0000000000000000
+bus id 00 name \"PCI   \"
+bus id 01 name \"ISA   \"
+ioapic id 04 version 11 flags 01 address FEC00000
+ioapic id 08 version 11 flags 01 address FEC00000
+ioint kind 00 flags 0000 bus 00 irq 00 dest 08 pin 10
 ioint kind 00 flags 0000 bus 00 irq 00 dest 08 pin 10
 ioint kind 00 flags 0000 bus 01 irq 01 dest 04 pin 01
-";
+end
+",
+);
 
 /// A usual board: two processors, a PCI and an ISA bus, 17 interrupts.
-const USUAL: Tables = Tables::Listed(&[Entry::Lines(USUAL_ENTRIES)]);
-
-const USUAL_ENTRIES: &str =
-    "processor id 00 version 14 flags 03 signature 00000600 features 00000201 reserved 0000000000000000
+const USUAL: Tables = Tables::Text(
+    "mptable 1
+pointer at 000F0000 table 000F0010 revision 04 features 0000000000
+header revision 04 oem \"MPTAB   \" product \"BOARD       \" oemtable 00000000 oemsize 0000 local FEE00000 reserved 00
+processor id 00 version 14 flags 03 signature 00000600 features 00000201 reserved 0000000000000000
 processor id 01 version 14 flags 01 signature 00000600 features 00000201 reserved 0000000000000000
 bus id 00 name \"PCI   \"
 bus id 01 name \"ISA   \"
@@ -40,13 +52,20 @@ ioint kind 00 flags 0000 bus 01 irq 0E dest 00 pin 0E
 ioint kind 00 flags 0000 bus 01 irq 0F dest 00 pin 0F
 localint kind 03 flags 0000 bus 01 irq 00 dest 00 pin 00
 localint kind 01 flags 0000 bus 01 irq 00 dest FF pin 01
-";
+end
+",
+);
 
 /// The default configurations: two processors, and the I/O interrupts of the standard.
 const DEFAULTS: &[Row] = &[
     Row {
         name: "1: ISA, older processors",
-        tables: Tables::Default("0100000000"),
+        tables: Tables::Text(
+            "mptable 1
+pointer at 0009FC00 table 00000000 revision 04 features 0100000000
+end
+",
+        ),
         script: "page = 0x9F\n",
         status: 0,
         text: "mpboot 1
@@ -57,7 +76,12 @@ entries 69
     },
     Row {
         name: "2: EISA, older processors, without IRQ 0 and IRQ 13",
-        tables: Tables::Default("0200000000"),
+        tables: Tables::Text(
+            "mptable 1
+pointer at 0009FC00 table 00000000 revision 04 features 0200000000
+end
+",
+        ),
         script: "page = 0x9F\n",
         status: 0,
         text: "mpboot 1
@@ -68,7 +92,12 @@ entries 61
     },
     Row {
         name: "3: EISA, older processors",
-        tables: Tables::Default("0300000000"),
+        tables: Tables::Text(
+            "mptable 1
+pointer at 0009FC00 table 00000000 revision 04 features 0300000000
+end
+",
+        ),
         script: "page = 0x9F\n",
         status: 0,
         text: "mpboot 1
@@ -79,7 +108,12 @@ entries 69
     },
     Row {
         name: "4: MCA, older processors",
-        tables: Tables::Default("0400000000"),
+        tables: Tables::Text(
+            "mptable 1
+pointer at 0009FC00 table 00000000 revision 04 features 0400000000
+end
+",
+        ),
         script: "page = 0x9F\n",
         status: 0,
         text: "mpboot 1
@@ -90,7 +124,12 @@ entries 69
     },
     Row {
         name: "5: ISA and PCI",
-        tables: Tables::Default("0500000000"),
+        tables: Tables::Text(
+            "mptable 1
+pointer at 0009FC00 table 00000000 revision 04 features 0500000000
+end
+",
+        ),
         script: "page = 0x9F\n",
         status: 0,
         text: "mpboot 1
@@ -101,7 +140,12 @@ entries 72
     },
     Row {
         name: "6: EISA and PCI",
-        tables: Tables::Default("0600000000"),
+        tables: Tables::Text(
+            "mptable 1
+pointer at 0009FC00 table 00000000 revision 04 features 0600000000
+end
+",
+        ),
         script: "page = 0x9F\n",
         status: 0,
         text: "mpboot 1
@@ -112,7 +156,12 @@ entries 72
     },
     Row {
         name: "7: MCA and PCI",
-        tables: Tables::Default("0700000000"),
+        tables: Tables::Text(
+            "mptable 1
+pointer at 0009FC00 table 00000000 revision 04 features 0700000000
+end
+",
+        ),
         script: "page = 0x9F\n",
         status: 0,
         text: "mpboot 1
@@ -123,7 +172,12 @@ entries 72
     },
     Row {
         name: "5 with IMCRP",
-        tables: Tables::Default("0580000000"),
+        tables: Tables::Text(
+            "mptable 1
+pointer at 0009FC00 table 00000000 revision 04 features 0580000000
+end
+",
+        ),
         script: "page = 0x9F\n",
         status: 0,
         text: "mpboot 1
@@ -135,7 +189,12 @@ entries 73
     },
     Row {
         name: "6, the second processor alone present",
-        tables: Tables::Default("0600000000"),
+        tables: Tables::Text(
+            "mptable 1
+pointer at 0009FC00 table 00000000 revision 04 features 0600000000
+end
+",
+        ),
         script: "page = 0x9F
 present = [1]
 ",
@@ -144,7 +203,12 @@ present = [1]
     },
     Row {
         name: "6, the place 1",
-        tables: Tables::Default("0600000000"),
+        tables: Tables::Text(
+            "mptable 1
+pointer at 0009FC00 table 00000000 revision 04 features 0600000000
+end
+",
+        ),
         script: "page = 0x9F
 device = [{ words = [\"high 1 0\"] }]
 ",
@@ -154,10 +218,13 @@ device = [{ words = [\"high 1 0\"] }]
 ];
 
 /// Who is started and how, and what is written into the I/O APICs.
-const PROGRAMS: &[Row] = &[
+const WRITTEN: &[Row] = &[
     Row {
         name: "version 0Fh: no STARTUP",
-        tables: Tables::Listed(&[Entry::Boot(0), Entry::CpuOf(1, 0x0F, 1)]),
+        tables: Tables::Listed(
+            &[Entry::Boot(0)],
+            "processor id 01 version 0F flags 01 signature 00000000 features 00000000 reserved 0000000000000000\n",
+        ),
         script: "page = 0x9F\n",
         status: 0,
         text: "mpboot 1
@@ -174,7 +241,7 @@ end
     },
     Row {
         name: "the boot processor last, a disabled one before it",
-        tables: Tables::Listed(&[Entry::Cpu(5), Entry::CpuOf(6, 0x10, 0), Entry::Boot(1)]),
+        tables: Tables::Listed(&[Entry::Cpu(5), Entry::CpuOff(6), Entry::Boot(1)], ""),
         script: "page = 0x9F\n",
         status: 0,
         text: "mpboot 1
@@ -194,7 +261,7 @@ end
     },
     Row {
         name: "two with the boot bit: the first is the boot processor",
-        tables: Tables::Listed(&[Entry::Boot(2), Entry::Boot(1)]),
+        tables: Tables::Listed(&[Entry::Boot(2), Entry::Boot(1)], ""),
         script: "page = 0x9F\n",
         status: 0,
         text: "mpboot 1
@@ -214,13 +281,7 @@ end
     },
     Row {
         name: "IMCRP; pins of two I/O APICs, one named twice, in the order of their entries, high word first",
-        tables: Tables::WithImcr(&[
-            Entry::Boot(3),
-            Entry::Lines("bus id 00 name \"PCI   \"\nbus id 01 name \"ISA   \"\n"),
-            Entry::Io(4),
-            Entry::Io(8),
-            Entry::Lines(SOURCES),
-        ]),
+        tables: TWO_PINS,
         script: "page = 0x9F\n",
         status: 0,
         text: "mpboot 1
@@ -245,12 +306,12 @@ end
     },
     Row {
         name: "an EISA interrupt that the script's ELCR makes level",
-        tables: Tables::Listed(&[
-            Entry::Boot(0),
-            Entry::Lines("bus id 00 name \"EISA  \"\n"),
-            Entry::Io(1),
-            Entry::Lines("ioint kind 00 flags 0000 bus 00 irq 01 dest 01 pin 01\n"),
-        ]),
+        tables: Tables::Listed(
+            &[Entry::Boot(0), Entry::Io(1)],
+            "bus id 00 name \"EISA  \"
+ioint kind 00 flags 0000 bus 00 irq 01 dest 01 pin 01
+",
+        ),
         script: "page = 0x9F
 elcr = 2
 ",
@@ -295,23 +356,13 @@ present = [1]
     },
 ];
 
-#[test]
-fn default_configurations(rt: HostRuntime) -> Result<(), Fail> {
-    assert_eq!(rt; first_wrong(rt.alloc(), "trace", DEFAULTS)?, None);
-    assert_eq!(rt; first_wrong(rt.alloc(), "boot", DEFAULTS)?, None);
-    Ok(())
-}
+/// All of them.
+const PROGRAMS: &[&[Row]] = &[DEFAULTS, WRITTEN, OF_USUAL];
 
 #[test]
 fn boot_programs(rt: HostRuntime) -> Result<(), Fail> {
-    assert_eq!(rt; first_wrong(rt.alloc(), "trace", PROGRAMS)?, None);
-    assert_eq!(rt; first_wrong(rt.alloc(), "boot", PROGRAMS)?, None);
-    Ok(())
-}
-
-#[test]
-fn usual_board(rt: HostRuntime) -> Result<(), Fail> {
-    assert_eq!(rt; first_wrong(rt.alloc(), "trace", OF_USUAL)?, None);
-    assert_eq!(rt; first_wrong(rt.alloc(), "boot", OF_USUAL)?, None);
+    for rows in PROGRAMS {
+        assert_eq!(rt; first_wrong(rt.alloc(), BOTH, rows)?, None);
+    }
     Ok(())
 }

@@ -1,29 +1,29 @@
 //! Whole reports that were worked out by hand: processors that start or don't, an edge pin that three devices
 //! pulse, a level pin that is sent again.
 
-use crate::harness::{Row, first_wrong};
+use crate::harness::{BOTH, Row, first_wrong};
 use crate::tables::{Entry, Tables};
 use std::test::Fail;
 
 /// One processor, and an ISA source at INTIN 1 of one I/O APIC.
-const ONE_PIN: Tables = Tables::Listed(&[
-    Entry::Boot(0),
-    Entry::Lines("bus id 00 name \"ISA   \"\n"),
-    Entry::Io(1),
-    Entry::Lines("ioint kind 00 flags 0000 bus 00 irq 01 dest 01 pin 01\n"),
-]);
+const ONE_PIN: Tables = Tables::Listed(
+    &[Entry::Boot(0), Entry::Io(1)],
+    "bus id 00 name \"ISA   \"
+ioint kind 00 flags 0000 bus 00 irq 01 dest 01 pin 01
+",
+);
 
 /// One processor, and a PCI source at INTIN 16 of one I/O APIC: level, low.
-const LEVEL_PIN: Tables = Tables::Listed(&[
-    Entry::Boot(0),
-    Entry::Lines("bus id 00 name \"PCI   \"\n"),
-    Entry::Io(1),
-    Entry::Lines("ioint kind 00 flags 0000 bus 00 irq 00 dest 01 pin 10\n"),
-]);
+const LEVEL_PIN: Tables = Tables::Listed(
+    &[Entry::Boot(0), Entry::Io(1)],
+    "bus id 00 name \"PCI   \"
+ioint kind 00 flags 0000 bus 00 irq 00 dest 01 pin 10
+",
+);
 
 const TWO_PROCESSORS: Row = Row {
     name: "two processors: the second is started",
-    tables: Tables::Listed(&[Entry::Boot(0), Entry::Cpu(1)]),
+    tables: Tables::Listed(&[Entry::Boot(0), Entry::Cpu(1)], ""),
     script: "page = 0x9F\n",
     status: 0,
     text: "mpboot 1
@@ -44,7 +44,12 @@ end
 
 const OLDER_AND_ABSENT: Row = Row {
     name: "an older processor is started by the warm-reset vector, an absent one answers nothing",
-    tables: Tables::Listed(&[Entry::Boot(0), Entry::CpuOf(1, 0x01, 1), Entry::Cpu(2)]),
+    tables: Tables::Listed(
+        &[Entry::Boot(0)],
+        "processor id 01 version 01 flags 01 signature 00000000 features 00000000 reserved 0000000000000000
+processor id 02 version 10 flags 01 signature 00000000 features 00000000 reserved 0000000000000000
+",
+    ),
     script: "page = 0x9F\npresent = [0, 1]\n",
     status: 0,
     text: "mpboot 1
@@ -218,15 +223,13 @@ end
 /// Rows whose report is that of the round robin.
 const BY_TURNS: &[Row] = &[WAITS_AT_ITS_LAST_WORD, READS_AND_POLLS, STAYS_HIGH, FALLS];
 
-#[test]
-fn reports_by_both_commands(rt: HostRuntime) -> Result<(), Fail> {
-    assert_eq!(rt; first_wrong(rt.alloc(), "trace", BY_BOTH)?, None);
-    assert_eq!(rt; first_wrong(rt.alloc(), "boot", BY_BOTH)?, None);
-    Ok(())
-}
+/// The rows, each with the commands that answer them.
+const REPORTS: &[(&[&str], &[Row])] = &[(BOTH, BY_BOTH), (&["trace"], BY_TURNS)];
 
 #[test]
-fn reports_by_turns(rt: HostRuntime) -> Result<(), Fail> {
-    assert_eq!(rt; first_wrong(rt.alloc(), "trace", BY_TURNS)?, None);
+fn reports(rt: HostRuntime) -> Result<(), Fail> {
+    for (commands, rows) in REPORTS {
+        assert_eq!(rt; first_wrong(rt.alloc(), commands, rows)?, None);
+    }
     Ok(())
 }
