@@ -1,5 +1,5 @@
 -- The text that is printed of a run reports it.
-use Rattle.std.proofs.Common.{◌≡◌, ℕ, List, Result, Ok, Err, IfOk, subst, sym, ap, ◌∙◌, Vec, Global}
+use Rattle.std.proofs.Common.{◌≡◌, ℕ, List, Result, Ok, Err, IfOk, ap, ◌∙◌, Vec, Global}
 use Rattle.mpt_base.specs.declared.outside.NoMemory.{NoMemory}
 use Rattle.mpb_spec.specs.declared.entry.Entry.{Entry}
 use Rattle.mpb_spec.specs.Plan.{Plan}
@@ -11,7 +11,7 @@ use Rattle.mpb_latch.specs.declared.pulse.Hit.{Hit}
 use Rattle.mpb_run_laws.specs.Account.{AccountsForPulses}
 use Rattle.mpb_run_laws.specs.RoundRobin.{IsRoundRobinOf}
 use Rattle.mpb_report.specs.Report.{report_of}
-use Rattle.mpb_boot.specs.Boot.{IsTraceOf, IsBoot, IsBootOf}
+use Rattle.mpb_boot.specs.Boot.{IsTraceOf, IsBootOf}
 
 module _ (c p : Plan) (journal : List Entry) (logs : List (List (Pulse × Hit))) (plan : p ≡ c) where
   said : (text : List ℕ) → text ≡ report_of p journal logs → text ≡ report_of c journal logs

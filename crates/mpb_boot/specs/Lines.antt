@@ -1,7 +1,8 @@
 -- The lines for a script or a board that is refused, this project's own.
 --     script_fault_line f    the script is refused
 --     board_fault_line f     tables and script describe no board
-use Rattle.std.specs.Prelude.{ℕ, List, [], ◌∷◌, codes, decimal}
+--     IsScriptFault f, IsBoardFault f    it is no want of memory
+use Rattle.std.specs.Prelude.{ℕ, List, [], ◌∷◌, codes, decimal, ⊤}
 use Rattle.mpt_listing.specs.Listing.{line, hex}
 use Rattle.mpb_spec.specs.declared.fault.BoardError.{BoardError}
 use Rattle.mpb_spec.specs.declared.fault.BoardError.TheVariants as board
@@ -32,7 +33,16 @@ word_why_text why.Count = codes "Count"
 word_why_text why.Number = codes "Number"
 word_why_text why.Range = codes "Range"
 
--- the script's first fault (want of memory is no fault, and has no line)
+-- want of memory is no fault, and has no line
+abbrev pub IsScriptFault : ScriptFault → Type 0
+IsScriptFault fault.NoMemory = ⊥
+IsScriptFault f = ⊤
+
+abbrev pub IsBoardFault : BoardError → Type 0
+IsBoardFault board.NoMemory = ⊥
+IsBoardFault e = ⊤
+
+-- the script's first fault
 abbrev pub script_fault_line : ScriptFault → List ℕ
 script_fault_line fault.NotToml = line (codes "mptab: script not toml" ∷ [])
 script_fault_line (fault.Key name) = line (codes "mptab: script key " ∷ key_text name ∷ [])

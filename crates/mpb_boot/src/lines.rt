@@ -6,7 +6,7 @@ ghost use Rattle.mpt_listing.specs.Listing.{line, hex};
 ghost use Rattle.mpt_listing.specs.Part.{part_text};
 ghost use Rattle.mpb_script.specs.declared.script.ScriptFault.TheVariants.{Word};
 ghost use Rattle.mpb_report.specs.EntryLines.{agent_text};
-ghost use Rattle.mpb_boot.specs.Lines.{key_text, word_why_text, script_fault_line, board_fault_line};
+ghost use Rattle.mpb_boot.specs.Lines.{key_text, word_why_text, script_fault_line, board_fault_line, IsScriptFault, IsBoardFault};
 
 use mpb_script::{KeyName, ScriptFault, WordWhy};
 use mpb_spec::{Agent, BoardError};
@@ -25,9 +25,10 @@ fn line_of(alloc: Global, parts: &[Part]) -> Result<Vec<u8>, NoMemory>
     }
 }
 
-/// The line for a script that is refused. Want of memory has none: its text is empty.
+/// The line for a script that is refused. Want of memory has none, and is answered by itself.
 pub fn script_fault_line(alloc: Global, fault: ScriptFault) -> Result<Vec<u8>, NoMemory>
     ensures line { IfOk result (λ text. text.items ≡ script_fault_line fault) }
+    ensures fault { IfOk result (λ _. IsScriptFault fault) }
 {
     match fault {
         ScriptFault::NotToml => line_of(alloc, &[Part::Text(b"mptab: script not toml")]),
@@ -46,18 +47,13 @@ pub fn script_fault_line(alloc: Global, fault: ScriptFault) -> Result<Vec<u8>, N
             ],
         ),
         ScriptFault::Word { agent, index, why } => word_line(alloc, agent, index, why),
-        ScriptFault::NoMemory => Ok(Vec::new(alloc)),
+        ScriptFault::NoMemory => Err(NoMemory),
     }
 }
 
 // the line for a wrong word
 #[tactic(auto, using(crate::proofs::LineLemmas::word_line_is))]
-fn word_line(
-    alloc: Global,
-    agent: Agent,
-    index: u32,
-    why: WordWhy,
-) -> Result<Vec<u8>, NoMemory>
+fn word_line(alloc: Global, agent: Agent, index: u32, why: WordWhy) -> Result<Vec<u8>, NoMemory>
     ensures { IfOk result (λ text. text.items ≡ script_fault_line (Word agent index why)) }
 {
     let (kind, number) = agent_parts(agent);
@@ -113,10 +109,11 @@ fn why_name(why: WordWhy) -> &'static [u8]
     }
 }
 
-/// The line for tables and a script that describe no board. Want of memory has none: its text is
-/// empty.
+/// The line for tables and a script that describe no board. Want of memory has none, and is answered
+/// by itself.
 pub fn board_fault_line(alloc: Global, error: BoardError) -> Result<Vec<u8>, NoMemory>
     ensures line { IfOk result (λ text. text.items ≡ board_fault_line error) }
+    ensures fault { IfOk result (λ _. IsBoardFault error) }
 {
     match error {
         BoardError::NoBoot => line_of(alloc, &[Part::Text(b"mptab: board no boot processor")]),
@@ -129,7 +126,7 @@ pub fn board_fault_line(alloc: Global, error: BoardError) -> Result<Vec<u8>, NoM
         BoardError::NoIo { place } => {
             count_line(alloc, b"mptab: board no ioapic ", u32::from(place))
         }
-        BoardError::NoMemory => Ok(Vec::new(alloc)),
+        BoardError::NoMemory => Err(NoMemory),
     }
 }
 

@@ -1,5 +1,5 @@
 -- One member of a list set to what it changes to, and the acts of a device by their place.
-use Rattle.std.proofs.Common.{◌≡◌, ◌<◌, ◌≤◌, ◌+◌, ◌-◌, ◌↔◌, ℕ, zero, suc, Bool, true, false, List, [], ◌∷◌, ◌++◌, length, map, set, get_or, slice_get, replicate, refl, sym, ap, ◌∙◌, arith, Option, None, Some, is_some, IsTrue}
+use Rattle.std.proofs.Common.{◌≡◌, ◌<◌, ◌≤◌, ◌-◌, ◌↔◌, ℕ, zero, suc, Bool, true, false, List, [], ◌∷◌, ◌++◌, length, map, set, get_or, slice_get, refl, sym, ap, ◌∙◌, arith, Option, None, Some, is_some, IsTrue}
 use Rattle.mpb_spec.specs.declared.agent.Agent.{Agent}
 use Rattle.mpb_spec.specs.declared.agent.Offer.{Offer}
 use Rattle.mpb_spec.specs.declared.agent.Op.{Op}

@@ -1,5 +1,5 @@
 -- Turns make a round, and rounds the round robin.
-use Rattle.std.proofs.Common.{◌≡◌, ◌<◌, ◌≤◌, ◌+◌, ◌-◌, ◌^◌, ℕ, zero, suc, List, [], ◌∷◌, ◌++◌, length, take, get_or, fold, refl, sym, ap, ◌∙◌, subst, arith}
+use Rattle.std.proofs.Common.{◌≡◌, ◌<◌, ◌≤◌, ◌+◌, ◌-◌, ◌^◌, ℕ, zero, suc, List, [], ◌∷◌, length, take, get_or, fold, refl, sym, ap, ◌∙◌, subst, arith}
 use Rattle.std.specs.List.{AllByRecursion}
 use Rattle.std.proofs.lemmas.List.{take_all}
 use Rattle.std.proofs.lemmas.List.Sums.{fold_more}
@@ -42,7 +42,7 @@ at-index P (x ∷ xs) (suc i) z l h = at-index P xs i z (omega arith) h.1
 pub next_agent : (start r : Run) (gs : List Agent) (i : ℕ) (g : Agent) → gs ≡ agents_of start.plan → IsAfter start (take i gs) r → i < length gs → g ≡ get_or gs i g → IsAgentOf r.plan g
 next_agent start r gs i g all h l e =
     subst (λ (c : Plan). IsAgentOf c g) (sym h.plan)
-      (subst (IsAgentOf start.plan) (sym e) (at-index (IsAgentOf start.plan) gs i g l (subst (λ xs. AllByRecursion (IsAgentOf start.plan) xs) (sym all) (agents_are start.plan))))
+    (subst (IsAgentOf start.plan) (sym e) (at-index (IsAgentOf start.plan) gs i g l (subst (λ xs. AllByRecursion (IsAgentOf start.plan) xs) (sym all) (agents_are start.plan))))
 
 pub one_turn : (start r t : Run) (gs : List Agent) (i : ℕ) (g : Agent) → gs ≡ agents_of start.plan → IsAfter start (take i gs) r → i < length gs → g ≡ get_or gs i g → t ≡ turn g r → IsAfter start (take (i + 1) gs) t
 one_turn start r t gs i g all h l e now = record {

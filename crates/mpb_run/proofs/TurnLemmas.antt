@@ -1,5 +1,5 @@
 -- Steps that are asked for first, and turns of devices by their next act.
-use Rattle.std.proofs.Common.{◌≡◌, ◌≤◌, ◌<◌, ◌+◌, ◌^◌, ℕ, zero, suc, true, false, List, [], ◌∷◌, ◌++◌, length, map, get_or, slice_get, sum_by, refl, sym, ap, ◌∙◌, subst, arith, Option, None, Some, is_some}
+use Rattle.std.proofs.Common.{◌≡◌, ◌≤◌, ◌<◌, ◌+◌, ◌^◌, ℕ, zero, suc, true, false, List, [], ◌∷◌, length, map, get_or, sum_by, refl, sym, arith, Option, None, Some, is_some}
 use Rattle.std.specs.Int.{bit_at}
 use Rattle.std.proofs.lemmas.List.{length-append, length-map}
 use Rattle.mpb_spec.specs.declared.config.DevWord.{DevWord}
@@ -7,11 +7,10 @@ use Rattle.mpb_spec.specs.declared.config.DevWord.TheVariants as word
 use Rattle.mpb_spec.specs.Plan.{Plan, plan_size}
 use Rattle.mpb_latch.specs.PlainLatch.{pins_at}
 use Rattle.mpb_laws.proofs.PartsStay.{devices_stay}
-use Rattle.mpb_run_laws.specs.declared.act.Act.{Act}
 use Rattle.mpb_run_laws.specs.declared.act.Act.TheVariants as act
 use Rattle.mpb_run_laws.specs.RoundRobin.{acts_of, next_act}
 use Rattle.mpb_run_laws.specs.Rest.{IsRun}
-use Rattle.mpb_run_laws.proofs.Places.{is-there, sum-at}
+use Rattle.mpb_run_laws.proofs.Places.{is-there}
 use Rattle.mpb_run_laws.proofs.Collects.{low_counts}
 use Rattle.mpb_run_laws.proofs.DevicesKeep.{word_in, all_not_over}
 use Rattle.mpb_spec.specs.declared.agent.Agent.{Agent}

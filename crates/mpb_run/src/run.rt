@@ -8,8 +8,8 @@ ghost use Rattle.mpb_latch.specs.PlainLatch.{pins_at};
 ghost use Rattle.mpb_latch.specs.Pulses.{logs_of, counts_of};
 ghost use Rattle.mpb_run_laws.specs.RoundRobin.{state_in, first_run, with_step, with_taken, with_counted, with_made, with_pulse, with_end, next_act, acts_of};
 
-use crate::ran::Ran;
 use crate::lists::{count_pins, log_hit, no_counts, no_logs, none_made, one_more};
+use crate::ran::Ran;
 use mpb_board::Board;
 use mpb_latch::{Account, Hit, PlainLatch, Pulse};
 use mpb_run_laws::Act;

@@ -5,7 +5,6 @@ use Rattle.std.proofs.lemmas.List.Elements.{filter_map-append}
 use Rattle.mpb_spec.specs.declared.agent.Op.{Op}
 use Rattle.mpb_spec.specs.declared.agent.Op.TheVariants as op
 use Rattle.mpb_spec.specs.declared.config.DevWord.{DevWord}
-use Rattle.mpb_spec.specs.declared.config.DevWord.TheVariants as word
 use Rattle.mpb_spec.specs.Plan.{op_of_word, device_program}
 use Rattle.mpb_run_laws.specs.declared.act.Act.{Act}
 use Rattle.mpb_run_laws.specs.declared.act.Act.TheVariants as act
@@ -83,9 +82,9 @@ unfolding LastOrNot
 last-op ws n a e =
     let lengths : length (ops (acts_of ws)) ≡ length (ops (take (suc n) (acts_of ws))) + length (ops (drop (suc n) (acts_of ws))) = ap (λ xs. length xs) (ops-split (acts_of ws) (suc n)) ∙ length-append (ops (take (suc n) (acts_of ws))) (ops (drop (suc n) (acts_of ws))) in
     ⊎_elim
-      (λ h. inl (h.0, (let z : length (ops (drop (suc n) (acts_of ws))) ≡ 0 = ap (λ xs. length (ops xs)) h.1 in omega arith)))
-      (λ h. inr (let z : 0 < length (ops (drop (suc n) (acts_of ws))) = Rattle.std.proofs.Common.subst (λ xs. 0 < length (ops xs)) (sym h.1) (some-ops h.0) in omega arith))
-      (acts-last ws n a e)
+    (λ h. inl (h.0, (let z : length (ops (drop (suc n) (acts_of ws))) ≡ 0 = ap (λ xs. length (ops xs)) h.1 in omega arith)))
+    (λ h. inr (let z : 0 < length (ops (drop (suc n) (acts_of ws))) = Rattle.std.proofs.Common.subst (λ xs. 0 < length (ops xs)) (sym h.1) (some-ops h.0) in omega arith))
+    (acts-last ws n a e)
 
 words-end : (ws : List DevWord) (n : ℕ) → slice_get (map act.Word ws ++ act.End ∷ []) n ≡ Some act.End → drop (suc n) (map act.Word ws ++ act.End ∷ []) ≡ []
 words-end [] zero e = refl
@@ -109,9 +108,9 @@ pub op-left : (ws : List DevWord) (n : ℕ) (a : Act) → slice_get (acts_of ws)
 op-left ws n a e =
     let more : length (ops (take (suc n) (acts_of ws))) ≡ length (ops (take n (acts_of ws))) + length (ops (a ∷ [])) = ap (λ xs. length xs) (ops-more (acts_of ws) n a e) ∙ length-append (ops (take n (acts_of ws))) (ops (a ∷ [])) in
     ⊎_elim
-      (λ h. (let one : length (ops (a ∷ [])) ≡ 1 = ap (λ b. length (ops (b ∷ []))) h.0 in omega arith))
-      (λ h. omega arith)
-      (last-op ws n a e)
+    (λ h. (let one : length (ops (a ∷ [])) ≡ 1 = ap (λ b. length (ops (b ∷ []))) h.0 in omega arith))
+    (λ h. omega arith)
+    (last-op ws n a e)
 
 -- a later act than the first follows an op
 pub begun-before : (ws : List DevWord) (n : ℕ) → 0 < n → 0 < length (ops (take n (acts_of ws)))
@@ -137,6 +136,3 @@ append-nil (x ∷ xs) = ap (λ ys. x ∷ ys) (append-nil xs)
 
 pub pulses-of_acts : (ws : List DevWord) → pulses (acts_of ws) ≡ pulses_in ws
 pulses-of_acts ws = filter_map-append pulse_of_act (map act.Word ws) (act.End ∷ []) ∙ append-nil (pulses (map act.Word ws)) ∙ pulses-of_words ws
-
-pub acts : Unit {0}
-acts = tt

@@ -1,40 +1,37 @@
 -- Turns of devices keep what holds of a run.
-use Rattle.std.proofs.Common.{◌≡◌, ◌≢◌, ◌==◌, ◌&&◌, ◌⊎◌, inl, inr, ⊎_elim, ℕ, zero, suc, ◌+◌, ◌*◌, ◌^◌, ◌<◌, ◌≤◌, Bool, true, false, cond, true≢false, List, [], ◌∷◌, ◌++◌, length, map, take, get_or, set, slice_get, sum_by, count_by, bit_or, refl, sym, ap, ◌∙◌, subst, arith, Option, None, Some, is_some, length-set, nat_le}
+use Rattle.std.proofs.Common.{◌≡◌, ◌≢◌, ◌&&◌, ◌⊎◌, inl, inr, ⊎_elim, ℕ, zero, suc, ◌+◌, ◌^◌, ◌<◌, ◌≤◌, Bool, true, false, cond, List, [], ◌∷◌, ◌++◌, length, map, take, get_or, slice_get, sum_by, count_by, bit_or, refl, sym, ap, ◌∙◌, subst, arith, Option, None, Some, is_some, length-set}
 use mathlib.Core.Logic.{dite}
 use native.Mathlib.Decide.{ℕ_discrete}
 use Rattle.std.specs.Int.{bit_at}
 use Rattle.std.specs.Option.{option_map}
-use Rattle.std.proofs.lemmas.Bool.{leb-true, leb-false, le-leb, lt-leb}
+use Rattle.std.proofs.lemmas.Bool.{leb-true, le-leb, lt-leb}
 use Rattle.std.proofs.lemmas.Nat.{or_lt, pow_below}
 use Rattle.std.proofs.lemmas.List.{map-append, length-append, length-map, get_or-set_other, get_or-set_same}
 use Rattle.std.proofs.lemmas.List.Sums.{sum_by_push, sum_by-le-sum_by, count_by-le-length}
-use Rattle.mpb_spec.specs.declared.agent.Agent.{Agent}
-use Rattle.mpb_spec.specs.declared.agent.Agent.TheVariants.{Cpu, Io, Dev}
-use Rattle.mpb_spec.specs.declared.agent.Offer.TheVariants.{Next, Collect, Sweep}
+use Rattle.mpb_spec.specs.declared.agent.Agent.TheVariants.{Dev}
+use Rattle.mpb_spec.specs.declared.agent.Offer.TheVariants.{Next}
 use Rattle.mpb_spec.specs.declared.agent.Op.{Op}
 use Rattle.mpb_spec.specs.declared.agent.Op.TheVariants as op
 use Rattle.mpb_spec.specs.declared.config.DevWord.{DevWord}
 use Rattle.mpb_spec.specs.declared.config.DevWord.TheVariants as word
 use Rattle.mpb_spec.specs.State.{Place, Device, BoardState, change_at, boot_is_through}
 use Rattle.mpb_spec.specs.Steps.{next_op, op_of_device, unless_early, after}
-use Rattle.mpb_spec.specs.Journal.{final_state_of}
 use Rattle.mpb_spec.specs.Configs.{IsWordOn}
 use Rattle.mpb_laws.proofs.PartsStay.{devices_stay}
 use Rattle.mpb_latch.specs.declared.pulse.Pulse.{Pulse}
 use Rattle.mpb_latch.specs.declared.pulse.Hit.{Hit}
-use Rattle.mpb_latch.specs.Pulses.{pulses_of, new_hits, new_hits_in, hit_of, is_on, is_new}
+use Rattle.mpb_latch.specs.Pulses.{new_hits, new_hits_in, hit_of, is_on, is_new}
 use Rattle.mpb_latch.specs.PlainLatch.{PlainState, pins_at, pulsed}
 use Rattle.mpb_latch.specs.Rule.{one_if, hits, starts}
 use Rattle.mpb_latch.proofs.Logs.{mark, on_gives, news-le-hits, starts-le-push, starts-push_first, new_at_zero}
 use Rattle.mpb_latch.proofs.Words.{pins_pulsed}
 use Rattle.mpb_run_laws.specs.declared.act.Act.{Act}
 use Rattle.mpb_run_laws.specs.declared.act.Act.TheVariants as act
-use Rattle.mpb_run_laws.specs.RoundRobin.{Run, state_in, entry_of, with_op, with_op_of, with_step, with_made, with_pulse, with_end, acts_of, next_act, act_turn, device_turn, turn}
-use Rattle.mpb_run_laws.specs.Account.{pulse_of}
+use Rattle.mpb_run_laws.specs.RoundRobin.{Run, state_in, entry_of, with_op, with_op_of, with_step, with_made, with_pulse, with_end, acts_of, next_act, act_turn, turn}
 use Rattle.mpb_run_laws.specs.Rest.{IsRun, IsRunAt, IsDeviceRun, is_over, op_of_act, pulse_of_act}
 use Rattle.mpb_run_laws.proofs.Places.{length-change, at-same, at-other, or-same, or-other, sum-change, inside, is-there, or-get, by-option}
 use Rattle.mpb_run_laws.proofs.Acts.{ops, pulses, op-at, ops-more, pulses-more, last-op, op-left, begun-before, take-more}
-use Rattle.mpb_run_laws.proofs.Frames.{one_on, dev-devices, sweeps, dev-sweeps, Through, dev-through}
+use Rattle.mpb_run_laws.proofs.Frames.{one_on, dev-devices, dev-sweeps, Through, dev-through}
 use Rattle.mpb_run_laws.proofs.StepsKeep.{at-state, legal-with_op, collected-same, swept-before}
 
 -- where a member fails a test, not all pass it
@@ -136,23 +133,24 @@ module _ (r : Run) (d : ℕ) (v : Device) (a : Act) (ok : IsRun r) (at : slice_g
     -- which device stands at a place afterwards
     at-after : (e : ℕ) (u : Device) → slice_get t.devices e ≡ Some u → ((e ≡ d) × (u ≡ one_on v)) ⊎ ((e ≢ d) × (slice_get s.devices e ≡ Some u))
     at-after e u w = dite (ℕ_discrete e d)
-      (λ same. inl (same, (let h : Some (one_on v) ≡ Some u = sym (ap (λ x. option_map one_on x) at) ∙ sym (at-same one_on d s.devices) ∙ sym (ap (λ ds. slice_get ds d) devs) ∙ ap (λ k. slice_get t.devices k) (sym same) ∙ w in let g : one_on v ≡ u = cc in sym g)))
-      (λ other. inr (other, sym (at-other one_on d e s.devices other) ∙ sym (ap (λ ds. slice_get ds e) devs) ∙ w))
+        (λ same. inl (same, (let h : Some (one_on v) ≡ Some u = sym (ap (λ x. option_map one_on x) at) ∙ sym (at-same one_on d s.devices) ∙ sym (ap (λ ds. slice_get ds d) devs) ∙ ap (λ k. slice_get t.devices k) (sym same) ∙ w in let g : one_on v ≡ u = cc in sym g)))
+        (λ other. inr (other, sym (at-other one_on d e s.devices other) ∙ sym (ap (λ ds. slice_get ds e) devs) ∙ w))
 
     each-after : (e : ℕ) (u : Device) → slice_get t.devices e ≡ Some u → IsDeviceRun (acts_of (get_or r.plan.devices e [])) (get_or (change_at d suc r.made) e 0) (get_or r.logs e []) u
     each-after e u w = ⊎_elim
-      (λ h. subst (λ (q : ℕ × Device). IsDeviceRun (acts_of (get_or r.plan.devices q.0 [])) (get_or (change_at d suc r.made) q.0 0) (get_or r.logs q.0 []) q.1) (λ i. (sym h.0 i, sym h.1 i))
-           (subst (λ k. IsDeviceRun acts k log (one_on v)) (sym (or-same suc d r.made 0 (let l = there in let m = ok.made in omega arith))) mine-after))
-      (λ h. subst (λ k. IsDeviceRun (acts_of (get_or r.plan.devices e [])) k (get_or r.logs e []) u) (sym (or-other suc d e r.made 0 h.0)) (ok.each e u h.1))
-      (at-after e u w)
+        (λ h. subst (λ (q : ℕ × Device). IsDeviceRun (acts_of (get_or r.plan.devices q.0 [])) (get_or (change_at d suc r.made) q.0 0) (get_or r.logs q.0 []) q.1) (λ i. (sym h.0 i, sym h.1 i))
+        (subst (λ k. IsDeviceRun acts k log (one_on v)) (sym (or-same suc d r.made 0 (let l = there in let m = ok.made in omega arith))) mine-after))
+        (λ h. subst (λ k. IsDeviceRun (acts_of (get_or r.plan.devices e [])) k (get_or r.logs e []) u) (sym (or-other suc d e r.made 0 h.0)) (ok.each e u h.1))
+        (at-after e u w)
 
     -- how many are at their end: one more where the act is the end
     over-after : (is_over (one_on v) ≡ true → a ≡ act.End) × (a ≡ act.End → is_over (one_on v) ≡ true)
     over-after =
         let e = ap (λ (xs : List Op). length xs) mine.program in
-        let p = mine-after.position in
-        (λ yes'. (let l = leb-true (length v.program) (suc v.position) yes' in ⊎_elim (λ h. h.0) (λ h. absurd (omega arith)) (last-op words n a next)),
-         λ is-end. le-leb (length v.program) (suc v.position) (⊎_elim (λ h. (let k = h.1 in omega arith)) (λ h. absurd (end-last is-end h)) (last-op words n a next)))
+        let p = mine-after.position in (
+          λ yes'. (let l = leb-true (length v.program) (suc v.position) yes' in ⊎_elim (λ h. h.0) (λ h. absurd (omega arith)) (last-op words n a next)),
+          λ is-end. le-leb (length v.program) (suc v.position) (⊎_elim (λ h. (let k = h.1 in omega arith)) (λ h. absurd (end-last is-end h)) (last-op words n a next)),
+        )
       where
         end-last : a ≡ act.End → length (ops (take (suc n) acts)) < length (ops acts) → ⊥
         end-last is-end l = Rattle.mpb_run_laws.proofs.Acts.end-is-last words n (next ∙ ap (λ x. Some x) is-end) l
@@ -243,8 +241,8 @@ module _ (r : Run) (d : ℕ) (v : Device) (a : Act) (ok : IsRun r) (at : slice_g
 
     narrow-after : (b : ℕ) → pins_at b latch' < 2 ^ 24
     narrow-after b = dite (ℕ_discrete b p.io)
-      (λ e. subst (λ k. k < 2 ^ 24) (sym (ap (λ i. pins_at i latch') e ∙ get_or-set_same r.latch.pins p.io (bit_or (pins_at p.io r.latch) (2 ^ p.pin)) 0 (let w = ok.words in omega arith))) (or_lt 24 (pins_at p.io r.latch) (2 ^ p.pin) (ok.narrow p.io) (pow_below p.pin 24 pin-in)))
-      (λ other. subst (λ k. k < 2 ^ 24) (sym (get_or-set_other r.latch.pins p.io b (bit_or (pins_at p.io r.latch) (2 ^ p.pin)) 0 other)) (ok.narrow b))
+        (λ e. subst (λ k. k < 2 ^ 24) (sym (ap (λ i. pins_at i latch') e ∙ get_or-set_same r.latch.pins p.io (bit_or (pins_at p.io r.latch) (2 ^ p.pin)) 0 (let w = ok.words in omega arith))) (or_lt 24 (pins_at p.io r.latch) (2 ^ p.pin) (ok.narrow p.io) (pow_below p.pin 24 pin-in)))
+        (λ other. subst (λ k. k < 2 ^ 24) (sym (get_or-set_other r.latch.pins p.io b (bit_or (pins_at p.io r.latch) (2 ^ p.pin)) 0 other)) (ok.narrow b))
 
     -- the hits
     news-after : (io pin : ℕ) → new_hits io pin logs' ≡ new_hits io pin r.logs + one_if (is_on io pin p && is_new x.1)
@@ -303,14 +301,14 @@ module _ (r : Run) (d : ℕ) (v : Device) (a : Act) (ok : IsRun r) (at : slice_g
           let h : Some v ≡ Some u = sym at ∙ ap (λ k. slice_get (state_in r).devices k) (sym is) ∙ w in
           let g : v ≡ u = cc in
           subst (λ (q : ℕ × Device). IsDeviceRun (acts_of (get_or r.plan.devices q.0 [])) (get_or (change_at d suc r.made) q.0 0) (get_or logs' q.0 []) q.1) (λ i. (sym is i, g i))
-            (subst (λ (q : ℕ × List (Pulse × Hit)). IsDeviceRun acts q.0 q.1 v)
-              (λ i. (sym (or-same suc d r.made 0 (let l = there in let m = ok.made in omega arith)) i, sym (or-same (λ l. l ++ x ∷ []) d r.logs [] (let l = there in let m = ok.logs in omega arith)) i))
-              mine-pulsed)
+          (subst (λ (q : ℕ × List (Pulse × Hit)). IsDeviceRun acts q.0 q.1 v)
+          (λ i. (sym (or-same suc d r.made 0 (let l = there in let m = ok.made in omega arith)) i, sym (or-same (λ l. l ++ x ∷ []) d r.logs [] (let l = there in let m = ok.logs in omega arith)) i))
+          mine-pulsed)
 
       other : e ≢ d → IsDeviceRun (acts_of (get_or r.plan.devices e [])) (get_or (change_at d suc r.made) e 0) (get_or logs' e []) u
       other ne = subst (λ (q : ℕ × List (Pulse × Hit)). IsDeviceRun (acts_of (get_or r.plan.devices e [])) q.0 q.1 u)
-        (λ i. (sym (or-other suc d e r.made 0 ne) i, sym (or-other (λ l. l ++ x ∷ []) d e r.logs [] ne) i))
-        (ok.each e u w)
+          (λ i. (sym (or-other suc d e r.made 0 ne) i, sym (or-other (λ l. l ++ x ∷ []) d e r.logs [] ne) i))
+          (ok.each e u w)
 
     pub pulsed-run : IsRun (with_made d (with_pulse d p r))
     pulsed-run = record {
@@ -388,7 +386,7 @@ dev_keeps r d ok here = go (next_act d r) refl where
       let h = through-begin r d found.0 act.Begin ok found.1 next refl o w in
       let b = op-begin o h.0 in
       subst (λ (y : Op). IsRun (with_made d (with_op (Dev d) y r))) (sym h.0)
-        (stepped-run r d found.0 act.Begin ok found.1 next op.Begin refl refl (w ∙ ap (λ y. Some y) h.0) h.1 r.latch.ended (ends-none r d found.0 act.Begin ok found.1 next op.Begin refl refl (w ∙ ap (λ y. Some y) h.0) h.1 begin-end))
+      (stepped-run r d found.0 act.Begin ok found.1 next op.Begin refl refl (w ∙ ap (λ y. Some y) h.0) h.1 r.latch.ended (ends-none r d found.0 act.Begin ok found.1 next op.Begin refl refl (w ∙ ap (λ y. Some y) h.0) h.1 begin-end))
     where
       op-begin : (o : Op) → o ≡ op.Begin → o ≡ op.Begin
       op-begin o e = e
@@ -398,14 +396,14 @@ dev_keeps r d ok here = go (next_act d r) refl where
       let t = through-later r d found.0 a ok found.1 next (later r d a next not-begin) in
       let w : next_op (state_in r) (Dev d) Next ≡ Some o = next-op r d found.0 a ok found.1 next o is ∙ goes in
       subst (λ (x : Option Op). IsRun (with_made d (with_op_of (Dev d) x r))) (sym w)
-        (stepped-run r d found.0 a ok found.1 next o is no-pulse w t r.latch.ended (ends-none r d found.0 a ok found.1 next o is no-pulse w t not-end))
+      (stepped-run r d found.0 a ok found.1 next o is no-pulse w t r.latch.ended (ends-none r d found.0 a ok found.1 next o is no-pulse w t not-end))
 
   ends : next_act d r ≡ Some act.End → IsRun (with_made d (with_end (with_step (Dev d) Next r)))
   ends next =
       let t = through-later r d found.0 act.End ok found.1 next (later r d act.End next end-begin) in
       let w : next_op (state_in r) (Dev d) Next ≡ Some op.End = next-op r d found.0 act.End ok found.1 next op.End refl in
       subst (λ (x : Option Op). IsRun (with_made d (with_end (with_op_of (Dev d) x r)))) (sym w)
-        (stepped-run r d found.0 act.End ok found.1 next op.End refl refl w t (r.latch.ended + 1) (ends-one r d found.0 act.End ok found.1 next op.End refl refl w t refl))
+      (stepped-run r d found.0 act.End ok found.1 next op.End refl refl w t (r.latch.ended + 1) (ends-one r d found.0 act.End ok found.1 next op.End refl refl w t refl))
 
   go : (x : Option Act) → next_act d r ≡ x → IsRun (act_turn d x r)
   go None next = ok
@@ -417,6 +415,3 @@ dev_keeps r d ok here = go (next_act d r) refl where
   go (Some (act.Word (word.High a pin))) next = steps (act.Word (word.High a pin)) (op.High a pin) next refl refl (word-begin (word.High a pin)) (word-end (word.High a pin)) refl
   go (Some (act.Word (word.Low a pin))) next = steps (act.Word (word.Low a pin)) (op.Low a pin) next refl refl (word-begin (word.Low a pin)) (word-end (word.Low a pin)) refl
   go (Some act.End) next = ends next
-
-pub devices : Unit {0}
-devices = tt

@@ -1,5 +1,5 @@
 -- The round robin of a worked board, by computation: three devices pulse one pin, and two of the pulses merge.
-use Rattle.std.proofs.Common.{◌≡◌, ◌++◌, false, List, [], ◌∷◌, map, refl}
+use Rattle.std.proofs.Common.{◌≡◌, false, List, [], ◌∷◌, map, refl}
 use Rattle.mpb_spec.specs.declared.agent.Agent.{Agent}
 use Rattle.mpb_spec.specs.declared.agent.Agent.TheVariants.{Cpu, Io, Dev}
 use Rattle.mpb_spec.specs.declared.agent.Op.{Op}
@@ -30,21 +30,21 @@ ops_in r = map (λ x. (x.agent, x.op)) r.journal
 gathers_three_pulses
     : ops_in (rounds 9 (first_run three_pulses))
     ≡ (Cpu 0, op.IoSel 0 0x13)
-      ∷ (Cpu 0, op.IoWin 0 0)
-      ∷ (Cpu 0, op.IoSel 0 0x12)
-      ∷ (Cpu 0, op.IoWin 0 0x21)
-      ∷ (Dev 0, op.Begin)
-      ∷ (Dev 1, op.Begin)
-      ∷ (Dev 2, op.Begin)
-      ∷ (Io 0, op.Collect 2)
-      ∷ (Dev 0, op.End)
-      ∷ (Dev 1, op.End)
-      ∷ (Dev 2, op.End)
-      ∷ (Io 0, op.Send 1)
-      ∷ (Cpu 0, op.Take)
-      ∷ (Io 0, op.Sweep)
-      ∷ (Cpu 0, op.Eoi)
-      ∷ []
+    ∷ (Cpu 0, op.IoWin 0 0)
+    ∷ (Cpu 0, op.IoSel 0 0x12)
+    ∷ (Cpu 0, op.IoWin 0 0x21)
+    ∷ (Dev 0, op.Begin)
+    ∷ (Dev 1, op.Begin)
+    ∷ (Dev 2, op.Begin)
+    ∷ (Io 0, op.Collect 2)
+    ∷ (Dev 0, op.End)
+    ∷ (Dev 1, op.End)
+    ∷ (Dev 2, op.End)
+    ∷ (Io 0, op.Send 1)
+    ∷ (Cpu 0, op.Take)
+    ∷ (Io 0, op.Sweep)
+    ∷ (Cpu 0, op.Eoi)
+    ∷ []
 unfolding three_pulses ops_in
 gathers_three_pulses = refl
 

@@ -1,9 +1,7 @@
 -- What a step leaves as it was: the devices, where the agent is none; which I/O APICs have swept; that the boot program is
 -- through.
-use Rattle.std.proofs.Common.{◌≡◌, ◌≢◌, ◌==◌, ◌⊎◌, inl, inr, ℕ, zero, suc, ◌+◌, ◌≤◌, Bool, true, false, cond, List, [], ◌∷◌, length, map, refl, sym, ap, ◌∙◌, subst, Option, None, Some, slice_get, nat_le, arith, true≢false}
-use Rattle.std.specs.Option.{option_map}
+use Rattle.std.proofs.Common.{◌≡◌, ◌==◌, ℕ, suc, ◌≤◌, Bool, true, false, cond, List, [], ◌∷◌, map, refl, sym, ap, subst, Option, None, Some, nat_le, arith, true≢false}
 use Rattle.std.proofs.lemmas.Bool.{leb-true, le-leb}
-use Rattle.mpb_spec.specs.declared.agent.Agent.{Agent}
 use Rattle.mpb_spec.specs.declared.agent.Agent.TheVariants.{Cpu, Io, Dev}
 use Rattle.mpb_spec.specs.declared.agent.Op.{Op}
 use Rattle.mpb_spec.specs.declared.agent.Op.TheVariants as op
@@ -184,6 +182,3 @@ io-through a (op.Collect pins) s h = h
 io-through a (op.Send pin) s h = send-through a (due_at a s) s h
 io-through a op.Sweep s h = h
 io-through a o s h = h
-
-pub frames : Unit {0}
-frames = tt

@@ -6,10 +6,10 @@ use Rattle.std.specs.Int.{bit_at}
 use Rattle.std.specs.Option.{option_map}
 use Rattle.std.proofs.lemmas.Bool.{eqb-true}
 use Rattle.std.proofs.lemmas.Nat.Bits.{bit_at-lt, bit_at-zero}
-use Rattle.std.proofs.lemmas.List.{get_or-set_other, get_or-set_same, set-get_or, set_past, get_or_past}
+use Rattle.std.proofs.lemmas.List.{get_or-set_other, set-get_or}
 use Rattle.std.proofs.lemmas.List.Sums.{sum_by_push}
 use Rattle.mpb_spec.specs.declared.agent.Agent.{Agent}
-use Rattle.mpb_spec.specs.declared.agent.Agent.TheVariants.{Cpu, Io, Dev}
+use Rattle.mpb_spec.specs.declared.agent.Agent.TheVariants.{Cpu, Io}
 use Rattle.mpb_spec.specs.declared.agent.Offer.{Offer}
 use Rattle.mpb_spec.specs.declared.agent.Offer.TheVariants.{Next, Collect, Sweep}
 use Rattle.mpb_spec.specs.declared.agent.Op.{Op}
@@ -20,16 +20,15 @@ use Rattle.mpb_spec.specs.IoApic.{next_due}
 use Rattle.mpb_spec.specs.State.{Place, Device, BoardState, change_at, boot_is_through, all_ended}
 use Rattle.mpb_spec.specs.Steps.{next_op, op_of_place, send_of, after, all_left}
 use Rattle.mpb_spec.specs.May.{MayStep}
-use Rattle.mpb_spec.specs.Journal.{IsStep, IsLegal, after_entry, final_state_of}
-use Rattle.mpb_spec.specs.Plan.{Plan}
+use Rattle.mpb_spec.specs.Journal.{IsLegal}
 use Rattle.mpb_laws.proofs.JournalLemmas.{goes_on, state_after}
-use Rattle.mpb_latch.specs.Pulses.{with_pins, with_pins_from}
+use Rattle.mpb_latch.specs.Pulses.{with_pins}
 use Rattle.mpb_latch.specs.PlainLatch.{PlainState, pins_at, collected}
 use Rattle.mpb_latch.proofs.Logs.{add_at, length-add}
-use Rattle.mpb_run_laws.specs.RoundRobin.{Run, state_in, entry_of, with_op, with_op_of, with_step, with_taken, with_counted, with_collected, send_or_sweep, io_turn, turn}
+use Rattle.mpb_run_laws.specs.RoundRobin.{Run, state_in, entry_of, with_op, with_op_of, with_step, with_taken, with_counted, with_collected, send_or_sweep, turn}
 use Rattle.mpb_run_laws.specs.Account.{collects, collected_count}
 use Rattle.mpb_run_laws.specs.Rest.{IsRun, IsRunAt, is_over}
-use Rattle.mpb_run_laws.proofs.Places.{length-change, at-same, at-other, or-same, or-other, at-map, by-option}
+use Rattle.mpb_run_laws.proofs.Places.{length-change, at-other, or-same, or-other, at-map, by-option}
 use Rattle.mpb_run_laws.proofs.Frames.{cpu-devices, io-devices, sweeps, cpu-sweeps, collect-sweeps, send-sweeps, Through, cpu-through, io-through}
 
 -- the state after an op made
@@ -205,24 +204,24 @@ module _ (may_collect : (r : Run) (a : ℕ) → IsRun r → a < length r.plan.io
         narrow = λ b. dite (ℕ_discrete b a) (λ e. subst (λ n. n < 2 ^ 24) (sym (ap (λ i. pins_at i (collected a r.latch)) e ∙ pins-none a r.latch)) (omega arith)) (λ other. subst (λ n. n < 2 ^ 24) (sym (pins-taken a b r.latch other)) (ok.narrow b));
         swept = λ b p e h. (let was = swept-before s (after (Io a) (op.Collect pins) s) b p (collect-sweeps a pins s) e h in let both = ok.swept b was.0 was.1 was.2 in (both.0, dite (ℕ_discrete b a) (λ same. ap (λ i. pins_at i (collected a r.latch)) same ∙ pins-none a r.latch) (λ other. pins-taken a b r.latch other ∙ both.1)));
         balance = λ b pin l m. dite (ℕ_discrete b a)
-          (λ e. (let here : collected_count b pin (r.journal ++ entry_of (Io a) (op.Collect pins) s ∷ []) ≡ collected_count b pin r.journal + bit_at pins pin = collected-more b pin (Io a) (op.Collect pins) r ∙ ap (λ k. collected_count b pin r.journal + k) (ap (λ t. cond (t && (bit_at pins pin == 1)) 1 0) (eq-eqb a b (sym e)) ∙ bit-as-test pins pin) in
-             let none : bit_at (pins_at b (collected a r.latch)) pin ≡ 0 = ap (λ n. bit_at n pin) (ap (λ i. pins_at i (collected a r.latch)) e ∙ pins-none a r.latch) ∙ bit_at-zero pin in
-             let word : bit_at (pins_at b r.latch) pin ≡ bit_at pins pin = ap (λ i. bit_at (pins_at i r.latch) pin) e in
-             let was = ok.balance b pin l m in omega arith))
-          (λ other. ok.balance b pin l m ∙ (let here : collected_count b pin (r.journal ++ entry_of (Io a) (op.Collect pins) s ∷ []) ≡ collected_count b pin r.journal = collected-same b pin (Io a) (op.Collect pins) r (ap (λ t. t && (bit_at pins pin == 1)) (ne_eqb a b (λ e. other (sym e)))) in
-             let word : bit_at (pins_at b (collected a r.latch)) pin ≡ bit_at (pins_at b r.latch) pin = ap (λ n. bit_at n pin) (pins-taken a b r.latch other) in omega arith));
+            (λ e. (let here : collected_count b pin (r.journal ++ entry_of (Io a) (op.Collect pins) s ∷ []) ≡ collected_count b pin r.journal + bit_at pins pin = collected-more b pin (Io a) (op.Collect pins) r ∙ ap (λ k. collected_count b pin r.journal + k) (ap (λ t. cond (t && (bit_at pins pin == 1)) 1 0) (eq-eqb a b (sym e)) ∙ bit-as-test pins pin) in
+            let none : bit_at (pins_at b (collected a r.latch)) pin ≡ 0 = ap (λ n. bit_at n pin) (ap (λ i. pins_at i (collected a r.latch)) e ∙ pins-none a r.latch) ∙ bit_at-zero pin in
+            let word : bit_at (pins_at b r.latch) pin ≡ bit_at pins pin = ap (λ i. bit_at (pins_at i r.latch) pin) e in
+            let was = ok.balance b pin l m in omega arith))
+            (λ other. ok.balance b pin l m ∙ (let here : collected_count b pin (r.journal ++ entry_of (Io a) (op.Collect pins) s ∷ []) ≡ collected_count b pin r.journal = collected-same b pin (Io a) (op.Collect pins) r (ap (λ t. t && (bit_at pins pin == 1)) (ne_eqb a b (λ e. other (sym e)))) in
+            let word : bit_at (pins_at b (collected a r.latch)) pin ≡ bit_at (pins_at b r.latch) pin = ap (λ n. bit_at n pin) (pins-taken a b r.latch other) in omega arith));
         counted = λ b pin l m. dite (ℕ_discrete b a)
-          (λ e. (let here : collected_count b pin (r.journal ++ entry_of (Io a) (op.Collect pins) s ∷ []) ≡ collected_count b pin r.journal + bit_at pins pin = collected-more b pin (Io a) (op.Collect pins) r ∙ ap (λ k. collected_count b pin r.journal + k) (ap (λ t. cond (t && (bit_at pins pin == 1)) 1 0) (eq-eqb a b (sym e)) ∙ bit-as-test pins pin) in
-             let row : get_or (change_at a (with_pins pins) r.counts) b [] ≡ with_pins pins (get_or r.counts b []) = ap (λ i. get_or (change_at a (with_pins pins) r.counts) i []) e ∙ or-same (with_pins pins) a r.counts [] (let n = ok.counts in omega arith) ∙ ap (λ i. with_pins pins (get_or r.counts i [])) (sym e) in
-             let at : get_or (with_pins pins (get_or r.counts b [])) pin 0 ≡ get_or (get_or r.counts b []) pin 0 + bit_at pins (0 + pin) = add_at pins 0 (get_or r.counts b []) pin (let n = ok.wide b l in omega arith) in
-             let same : bit_at pins (0 + pin) ≡ bit_at pins pin = ap (bit_at pins) (omega arith) in
-             let was = ok.counted b pin l m in
-             ap (λ xs. get_or xs pin 0) row ∙ at ∙ omega arith))
-          (λ other. ap (λ xs. get_or xs pin 0) (or-other (with_pins pins) a b r.counts [] other) ∙ ok.counted b pin l m ∙ sym (collected-same b pin (Io a) (op.Collect pins) r (ap (λ t. t && (bit_at pins pin == 1)) (ne_eqb a b (λ e. other (sym e))))));
+            (λ e. (let here : collected_count b pin (r.journal ++ entry_of (Io a) (op.Collect pins) s ∷ []) ≡ collected_count b pin r.journal + bit_at pins pin = collected-more b pin (Io a) (op.Collect pins) r ∙ ap (λ k. collected_count b pin r.journal + k) (ap (λ t. cond (t && (bit_at pins pin == 1)) 1 0) (eq-eqb a b (sym e)) ∙ bit-as-test pins pin) in
+            let row : get_or (change_at a (with_pins pins) r.counts) b [] ≡ with_pins pins (get_or r.counts b []) = ap (λ i. get_or (change_at a (with_pins pins) r.counts) i []) e ∙ or-same (with_pins pins) a r.counts [] (let n = ok.counts in omega arith) ∙ ap (λ i. with_pins pins (get_or r.counts i [])) (sym e) in
+            let at : get_or (with_pins pins (get_or r.counts b [])) pin 0 ≡ get_or (get_or r.counts b []) pin 0 + bit_at pins (0 + pin) = add_at pins 0 (get_or r.counts b []) pin (let n = ok.wide b l in omega arith) in
+            let same : bit_at pins (0 + pin) ≡ bit_at pins pin = ap (bit_at pins) (omega arith) in
+            let was = ok.counted b pin l m in
+            ap (λ xs. get_or xs pin 0) row ∙ at ∙ omega arith))
+            (λ other. ap (λ xs. get_or xs pin 0) (or-other (with_pins pins) a b r.counts [] other) ∙ ok.counted b pin l m ∙ sym (collected-same b pin (Io a) (op.Collect pins) r (ap (λ t. t && (bit_at pins pin == 1)) (ne_eqb a b (λ e. other (sym e))))));
         wide = λ b l. dite (ℕ_discrete b a)
-          (λ e. (let row : get_or (change_at a (with_pins pins) r.counts) b [] ≡ with_pins pins (get_or r.counts b []) = ap (λ i. get_or (change_at a (with_pins pins) r.counts) i []) e ∙ or-same (with_pins pins) a r.counts [] (let n = ok.counts in omega arith) ∙ ap (λ i. with_pins pins (get_or r.counts i [])) (sym e) in
-             ap (λ xs. length xs) row ∙ length-add pins 0 (get_or r.counts b []) ∙ ok.wide b l))
-          (λ other. ap (λ xs. length xs) (or-other (with_pins pins) a b r.counts [] other) ∙ ok.wide b l);
+            (λ e. (let row : get_or (change_at a (with_pins pins) r.counts) b [] ≡ with_pins pins (get_or r.counts b []) = ap (λ i. get_or (change_at a (with_pins pins) r.counts) i []) e ∙ or-same (with_pins pins) a r.counts [] (let n = ok.counts in omega arith) ∙ ap (λ i. with_pins pins (get_or r.counts i [])) (sym e) in
+            ap (λ xs. length xs) row ∙ length-add pins 0 (get_or r.counts b []) ∙ ok.wide b l))
+            (λ other. ap (λ xs. length xs) (or-other (with_pins pins) a b r.counts [] other) ∙ ok.wide b l);
         first = ok.first;
       })
 
@@ -238,6 +237,3 @@ module _ (may_collect : (r : Run) (a : ℕ) → IsRun r → a < length r.plan.io
     go : (b : Bool) → (pins_at a r.latch == 0) ≡ b → IsRun (cond b (send_or_sweep a (with_taken a r)) (with_collected a (pins_at a r.latch) (with_taken a r)))
     go true w = let none = eqb-true (pins_at a r.latch) 0 w in subst (λ (q : Run). IsRun (send_or_sweep a q)) (sym (taken-none a r none)) (send_or_sweep_keeps r a ok none)
     go false w = with_collected_keeps r a ok here (λ e. true≢false (sym (eq-eqb (pins_at a r.latch) 0 e) ∙ w))
-
-pub steps : Unit {0}
-steps = tt

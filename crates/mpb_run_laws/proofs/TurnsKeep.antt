@@ -3,23 +3,23 @@ use Rattle.std.proofs.Common.{◌≡◌, ◌≢◌, ◌==◌, ◌&&◌, ℕ, zer
 use Rattle.std.specs.Int.{bit_at}
 use Rattle.std.proofs.lemmas.Bool.{lt-leb}
 use Rattle.std.proofs.lemmas.Nat.Bits.{bit_at-zero}
-use Rattle.std.proofs.lemmas.List.{length-replicate, length-map}
+use Rattle.std.proofs.lemmas.List.{length-replicate}
 use Rattle.std.proofs.lemmas.List.Sums.{sum_by-cons}
 use Rattle.mpb_spec.specs.declared.agent.Agent.{Agent}
 use Rattle.mpb_spec.specs.declared.agent.Agent.TheVariants.{Cpu, Io, Dev}
-use Rattle.mpb_spec.specs.declared.agent.Offer.TheVariants.{Next, Collect}
+use Rattle.mpb_spec.specs.declared.agent.Offer.TheVariants.{Collect}
 use Rattle.mpb_spec.specs.declared.config.DevWord.{DevWord}
-use Rattle.mpb_spec.specs.State.{Place, Device, boot_is_through}
+use Rattle.mpb_spec.specs.State.{Place, Device}
 use Rattle.mpb_spec.specs.May.{MayStep}
 use Rattle.mpb_spec.specs.Configs.{IsConfig}
-use Rattle.mpb_spec.specs.Plan.{Plan, plan_size, initial_state_of, first_device, first_places, first_place, device_program}
+use Rattle.mpb_spec.specs.Plan.{Plan, plan_size, first_device, first_places, first_place, device_program}
 use Rattle.mpb_latch.specs.declared.pulse.Pulse.{Pulse}
 use Rattle.mpb_latch.specs.declared.pulse.Hit.{Hit}
 use Rattle.mpb_latch.specs.Pulses.{new_hits, new_hits_in}
 use Rattle.mpb_latch.specs.PlainLatch.{pins_at}
-use Rattle.mpb_latch.specs.Rule.{hits, starts}
+use Rattle.mpb_latch.specs.Rule.{hits}
 use Rattle.mpb_run_laws.specs.RoundRobin.{Run, state_in, turn, first_run, acts_of}
-use Rattle.mpb_run_laws.specs.Rest.{IsRun, IsRunAt, IsDeviceRun, IsAgentOf, is_over}
+use Rattle.mpb_run_laws.specs.Rest.{IsRun, IsDeviceRun, IsAgentOf, is_over}
 use Rattle.mpb_run_laws.proofs.Places.{at-map, by-option, or-get}
 use Rattle.mpb_run_laws.proofs.Acts.{program-of_acts}
 use Rattle.mpb_run_laws.proofs.StepsKeep.{cpu_keeps, io_keeps}
@@ -62,11 +62,12 @@ each-first c d v e =
     let h = by-option first_device (slice_get c.devices d) v (sym (at-map first_device d c.devices) ∙ e) in
     let words : get_or c.devices d [] ≡ h.0 = or-get d c.devices h.0 [] h.1 in
     let first : IsDeviceRun (acts_of h.0) 0 [] (first_device h.0) = record { program = program-of_acts h.0; within = omega arith; position = refl; pulses = refl } in
-    let pos : (first_device h.0).position ≡ 0 = refl in
-    (ap (λ (u : Device). u.position) (sym h.2) ∙ pos,
-     subst (λ (u : Device). IsDeviceRun (acts_of (get_or c.devices d [])) (get_or (replicate (length c.devices) 0) d 0) (get_or (replicate (length c.devices) []) d []) u) h.2
-      (subst (λ (ws : List DevWord). IsDeviceRun (acts_of ws) (get_or (replicate (length c.devices) 0) d 0) (get_or (replicate (length c.devices) []) d []) (first_device h.0)) (sym words)
-        (subst (λ (q : ℕ × List (Pulse × Hit)). IsDeviceRun (acts_of h.0) q.0 q.1 (first_device h.0)) (λ i. (sym (zeros-at (length c.devices) d) i, sym (logs-at (length c.devices) d) i)) first)))
+    let pos : (first_device h.0).position ≡ 0 = refl in (
+      ap (λ (u : Device). u.position) (sym h.2) ∙ pos,
+      subst (λ (u : Device). IsDeviceRun (acts_of (get_or c.devices d [])) (get_or (replicate (length c.devices) 0) d 0) (get_or (replicate (length c.devices) []) d []) u) h.2
+          (subst (λ (ws : List DevWord). IsDeviceRun (acts_of ws) (get_or (replicate (length c.devices) 0) d 0) (get_or (replicate (length c.devices) []) d []) (first_device h.0)) (sym words)
+          (subst (λ (q : ℕ × List (Pulse × Hit)). IsDeviceRun (acts_of h.0) q.0 q.1 (first_device h.0)) (λ i. (sym (zeros-at (length c.devices) d) i, sym (logs-at (length c.devices) d) i)) first)),
+    )
 
 pub first_is : (c : Plan) → IsConfig c → plan_size c < 2 ^ 32 → IsRun (first_run c)
 first_is c config small = record {
@@ -95,6 +96,3 @@ module _ (may_collect : (r : Run) (a : ℕ) → IsRun r → a < length r.plan.io
   turn_keeps_if r (Cpu id) ok here = cpu_keeps r id ok
   turn_keeps_if r (Io a) ok here = io_keeps may_collect r a ok here
   turn_keeps_if r (Dev d) ok here = dev_keeps r d ok here
-
-pub turns : Unit {0}
-turns = tt

@@ -6,7 +6,7 @@
 --     first_run c                nothing is done yet
 --     IsRoundRobinEnd c r        the run after the first rounds at whose end no agent may step
 --     IsRoundRobinOf c journal logs    its journal and logs
-use Rattle.std.specs.Prelude.{◌≡◌, ◌<◌, ◌==◌, ℕ, zero, suc, ◌+◌, Bool, List, [], ◌∷◌, ◌++◌, Option, None, Some, is_some, slice_get, slice_index, slice_index_or, fold, map, length, replicate, if◌then◌else◌}
+use Rattle.std.specs.Prelude.{◌≡◌, ◌<◌, ◌==◌, ℕ, zero, suc, ◌+◌, List, [], ◌∷◌, ◌++◌, Option, None, Some, is_some, slice_get, slice_index, slice_index_or, fold, map, length, replicate, if◌then◌else◌}
 use Rattle.std.specs.List.{range_with_len}
 use Rattle.std.specs.Int.{bit_at}
 use Rattle.mpb_spec.specs.declared.agent.Agent.{Agent}

@@ -149,6 +149,7 @@ plans_right p s h v =
     )
 
 pub config_right : (p : Platform) (s : Script) → board_fault_of p s ≡ None → HasScriptValues s → IsConfig (board_config_of p (routes_of p s.elcr) s)
+unfolding board_config_of
 config_right p s e v =
     let h = no_fault p s e in
     let ops = boot_program_of p (routes_of p s.elcr) s.page in

@@ -53,6 +53,7 @@ within : (m n : ℕ) → nat_lt m n ≡ false → n ≤ m
 within m n e = grind arith
 
 pub no_fault : (p : Platform) (s : Script) → board_fault_of p s ≡ None → HasNoFault p s
+unfolding board_fault_of
 no_fault p s e =
     let boot = boot_id_of p in
     let n = length (board_ids p s) in

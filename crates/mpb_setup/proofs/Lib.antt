@@ -6,3 +6,4 @@ pub mod WordLemmas
 pub mod BoardLemmas
 pub mod StartLemmas
 pub mod RoomLemmas
+pub mod LawLemmas

@@ -133,6 +133,7 @@ pub record IsSmall (c : Plan) : Type 0 where
   pub room : room c < 850000
 
 pub config_small : (p : Platform) (s : Script) → board_fault_of p s ≡ None → HasScriptValues s → AreBytes (enabled_ids p) → IsSmall (board_config_of p (routes_of p s.elcr) s)
+unfolding board_config_of
 config_small p s e v bytes =
     let h = no_fault p s e in
     let ops = boot_program_of p (routes_of p s.elcr) s.page in

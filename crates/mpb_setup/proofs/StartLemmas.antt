@@ -89,6 +89,7 @@ boot_part_is : (p : Platform) (ops : List Op) (s : Script) (id : ℕ) → id ≡
 boot_part_is p ops s id e = let same : (id == boot_id_of p) ≡ true = eq-eqb id (boot_id_of p) e in rw same (take-append_seam ops (cpu_words s.cpus id))
 
 pub config_starts : (p : Platform) (s : Script) → board_fault_of p s ≡ None → HasScriptValues s → IsStartableAt s.page (board_config_of p (routes_of p s.elcr) s)
+unfolding board_config_of
 config_starts p s e v =
     let h = no_fault p s e in
     let ops = boot_program_of p (routes_of p s.elcr) s.page in

@@ -54,8 +54,9 @@ cpu_plan_of p boot_program s id = record {
   program = (if id == boot_id_of p then boot_program else []) ++ cpu_words s.cpus id;
 }
 
--- the config
-abbrev pub board_config_of : Platform → List Answer → Script → Plan
+-- the config: the boot processor and the length of its boot program, the board's processors, the I/O APICs by place, whether
+-- there is an IMCR, and the words of each device
+unfoldable pub board_config_of : Platform → List Answer → Script → Plan
 board_config_of p answers s = record {
   boot = boot_id_of p;
   boot_len = length (boot_program_of p answers s.page);

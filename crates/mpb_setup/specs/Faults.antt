@@ -36,7 +36,7 @@ is_op_at a (op.IoWin b v) = b == a
 is_op_at a (op.IoRead b) = b == a
 is_op_at a o = false
 
--- the word of a device does
+-- the word of a device names the I/O APIC at the place
 abbrev pub is_word_at : ℕ → DevWord → Bool
 is_word_at a (word.Pulse b pin) = b == a
 is_word_at a (word.High b pin) = b == a
@@ -52,7 +52,7 @@ least_absent_place n ids s = find (λ a. nat_le n a && names_place ids s a) (ran
 
 -- the first cause: no boot processor; an id of two enabled processors, or of two enabled I/O APICs; the id 255; a boot id of 15
 -- or above; a boot processor that isn't present; more than 8 processors; more than 4 I/O APICs; a place that isn't there
-abbrev pub board_fault_of : Platform → Script → Option BoardError
+unfoldable pub board_fault_of : Platform → Script → Option BoardError
 board_fault_of p s =
     fault_if (not (is_some (boot_processor_of p))) fault.NoBoot
     <|> option_map fault.DoubleId (least_double (enabled_ids p))

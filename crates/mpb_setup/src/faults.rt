@@ -121,6 +121,7 @@ fn least_absent_place(ios: usize, ids: &[u8], s: &Script) -> Option<u8>
 
 /// The first cause for which there is no board, where these are the ids of the enabled processors, of
 /// the enabled I/O APICs and of the board's processors.
+#[tactic(auto, unfolding(crate::specs::Faults::board_fault_of))]
 pub fn board_fault(
     p: &Platform,
     s: &Script,

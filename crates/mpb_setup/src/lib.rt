@@ -6,9 +6,13 @@
 mod boot;
 mod faults;
 mod ids;
+mod laws;
 mod making;
 mod programs;
 mod setup;
 
 pub use boot::boot_ops;
+pub use laws::{
+    absent_places_are_least, boards_have_who_is_enabled_and_present, doubled_ids_are_least,
+};
 pub use setup::config;

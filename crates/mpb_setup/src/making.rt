@@ -26,6 +26,7 @@ fn boot_id(p: &Platform) -> u8
 }
 
 /// The config, of the ids of the board's processors and those of the enabled I/O APICs.
+#[tactic(auto, unfolding(crate::specs::Board::board_config_of))]
 pub fn made(
     alloc: Global,
     p: &Platform,

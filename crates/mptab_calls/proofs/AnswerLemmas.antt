@@ -15,9 +15,12 @@ use Rattle.mpt_base.specs.declared.fault.Reason.{Reason}
 use Rattle.mpt_table.specs.Windows.{IfTold}
 use Rattle.mptab_calls.specs.declared.ending.Ending.{Ending}
 use Rattle.mptab_calls.specs.declared.ending.Ending.TheVariants.{Absent, TooLarge, Unread, Refused, NoMemory}
-use Rattle.mptab_calls.specs.Forms.{Form, Show, Audit, Canon, Build, Route, Named, Image, Listing, source_of, files_of, name_of, limit_of, IsRead}
-use Rattle.mptab_calls.specs.Commands.{status_of, GivesTables, IsRefused, IsAnswerTo, IsReadyFor, no_pointer_line, fault_line, bad_line_line, unfit_line}
-use Rattle.mptab_calls.specs.Walk.{Outside, IsDueOf, AsksOf, most_of}
+use Rattle.std.specs.List.{AllByRecursion}
+use Rattle.mptab_calls.specs.declared.words.Source.{Source}
+use Rattle.mptab_calls.specs.declared.words.Source.TheVariants as source
+use Rattle.mptab_calls.specs.Forms.{Form, Show, Audit, Canon, Build, Route, Trace, Boot, Named, Image, Listing, Script, source_of, files_of, name_of, limit_of, named_of, IsRead}
+use Rattle.mptab_calls.specs.Commands.{status_of, GivesTables, IsUnderstood, IsRefused, IsAnswerTo, IsAnswerBy, IsReadyFor, no_pointer_line, fault_line, bad_line_line, unfit_line}
+use Rattle.mptab_calls.specs.Walk.{Outside, IsDueOf, AsksOf, Reaches, IsFirstRead, most_of}
 use Rattle.mptab_calls.specs.Ending.{ending_status, ending_text, IsEnding, Shelves, shelves}
 use Rattle.mptab_calls.specs.declared.answer.Answer.{Answer}
 use Rattle.mpt_base.specs.declared.outside.NoMemory.{NoMemory as NoMemoryUnit}
@@ -31,14 +34,19 @@ refused_not_absent told (Listing name) status text (inr h) three = omega (arith,
 refused_not_absent told (Script image name) status text (inl h) three = omega (arith, three, h.0)
 refused_not_absent told (Script image name) status text (inr h) three = omega (arith, three, h.0)
 
--- where the walk ends at the file that gives the form its tables, that is due
+-- where the walk ends at a file that it comes to, that is due; where memory is wanting the first file is to be there
+pub ending_at : (told : Option Files) (before after : Outside) (form : Form) (file : Named) (e : Ending) → Reaches told (files_of form) file → (IsRead told file (λ bytes. Unit {0}) → IsFirstRead told (files_of form))
+    → IsEnding told (shelves before.misses after.misses before.faults after.faults) file e → IsDueOf told before after form (ending_status e) (ending_text (name_of file) e)
+ending_at told before after form file Absent reaches first h = inl (inl (file, reaches, inl (refl, h.0, refl)), λ three. h.1, h.2)
+ending_at told before after form file Unread reaches first h = inr (inl (refl, h, file, reaches, refl))
+ending_at told before after form file NoMemory reaches first h = inr (inr (refl, h.1, first h.0, refl))
+ending_at told before after form file (TooLarge size) reaches first h = inl (inl (file, reaches, inr (inl (refl, size, h.0, refl))), λ three. absurd (omega (arith, three)), h.1)
+ending_at told before after form file (Refused answer) reaches first h = inl (inl (file, reaches, inr (inr h.0)), λ three. absurd (refused_not_absent told file answer.status answer.text.items h.0 three), h.1)
+
+-- at the file that gives the form its tables
 ending_due : (told : Option Files) (before after : Outside) (form : Form) (e : Ending) → IsEnding told (shelves before.misses after.misses before.faults after.faults) (source_of form) e
     → IsDueOf told before after form (ending_status e) (ending_text (name_of (source_of form)) e)
-ending_due told before after form Absent h = inl (inl (source_of form, inl refl, inl (refl, h.0, refl)), λ three. h.1, h.2)
-ending_due told before after form Unread h = inr (inl (refl, h, source_of form, inl refl, refl))
-ending_due told before after form NoMemory h = inr (inr (refl, h.1, h.0, refl))
-ending_due told before after form (TooLarge size) h = inl (inl (source_of form, inl refl, inr (inl (refl, size, h.0, refl))), λ three. absurd (omega (arith, three)), h.1)
-ending_due told before after form (Refused answer) h = inl (inl (source_of form, inl refl, inr (inr h.0)), λ three. absurd (refused_not_absent told (source_of form) answer.status answer.text.items h.0 three), h.1)
+ending_due told before after form e h = ending_at told before after form (source_of form) e (inl refl) (λ there. there) h
 
 pub IsEnding-due : (told : Option Files) (before after : Outside) (form : Form) (file : Named) (name : List ℕ) (e : Ending) → file ≡ source_of form → name ≡ name_of file → IsEnding told (shelves before.misses after.misses before.faults after.faults) file e
     → IsDueOf told before after form (ending_status e) (ending_text name e)
@@ -47,19 +55,22 @@ IsEnding-due told before after form file name e is named h =
     (ending_due told before after form e (subst (λ (f : Named). IsEnding told (shelves before.misses after.misses before.faults after.faults) f e) is h))
 
 -- a file of which something is read is there
-read_there : (files : Files) (file : Named) (P : List ℕ → Type 0) → IsRead (Some files) file P → IsRead (Some files) file (λ bytes. Unit {0})
+pub read_there : (files : Files) (file : Named) (P : List ℕ → Type 0) → IsRead (Some files) file P → IsRead (Some files) file (λ bytes. Unit {0})
 read_there files file P h = held (files (name_of file)) h
   where
     held : (o : Option (List ℕ)) → IsSomeAnd o (λ bytes. (length bytes ≤ limit_of file) × P bytes) → IsSomeAnd o (λ bytes. (length bytes ≤ limit_of file) × Unit {0})
     held None h = absurd h
     held (Some bytes) h = (h.0, tt)
 
--- where memory is wanting behind a file that gives tables, that is due
-pub IsEnding-given : (told : Option Files) (before after : Outside) (file : Named) (tables : Tables) → GivesTables told file tables → after.faults ≡ before.faults → IsEnding told (shelves before.misses after.misses before.faults after.faults) file NoMemory
-IsEnding-given None before after file tables gives kept = (tt, kept)
-IsEnding-given (Some files) before after (Image name) tables gives kept = (read_there files (Image name) (λ image. Describes image tables) gives, kept)
-IsEnding-given (Some files) before after (Listing name) tables gives kept = (read_there files (Listing name) (IsListingOf tables) gives.1, kept)
-IsEnding-given (Some files) before after (Script image name) tables gives kept = GAP
+-- a file that gives tables is there
+source_there : (told : Option Files) (source : Source) (tables : Tables) → GivesTables told (named_of source) tables → IsRead told (named_of source) (λ bytes. Unit {0})
+source_there None source tables gives = tt
+source_there (Some files) (source.Image name) tables gives = read_there files (Image name.now) (λ image. Describes image tables) gives
+source_there (Some files) (source.Listing name) tables gives = read_there files (Listing name.now) (IsListingOf tables) gives.1
+
+-- where memory is wanting behind it, that is due
+pub IsEnding-given : (told : Option Files) (before after : Outside) (source : Source) (tables : Tables) → GivesTables told (named_of source) tables → after.faults ≡ before.faults → IsEnding told (shelves before.misses after.misses before.faults after.faults) (named_of source) NoMemory
+IsEnding-given told before after source tables gives kept = (source_there told source tables gives, kept)
 
 -- no answer to tables has the status of an absent file
 not_absent : (form : Form) (tables : Tables) (status : ℕ) (text : List ℕ) → IsAnswerTo form tables status text → status ≡ 3 → ⊥
@@ -73,6 +84,8 @@ not_absent (Canon image) tables status text (inl h) three = omega (arith, three,
 not_absent (Canon image) tables status text (inr h) three = omega (arith, three, h.0)
 not_absent (Build listing) tables status text h three = omega (arith, three, h.0)
 not_absent (Route image elcr) tables status text h three = omega (arith, three, h.0)
+not_absent (Trace image script) tables status text h three = absurd h
+not_absent (Boot image script) tables status text h three = absurd h
 
 -- tables that a file gives are what the form needs beside well formed
 ready_given : (told : Option Files) (form : Form) (tables : Tables) → GivesTables told (source_of form) tables → IsReadyFor form tables
@@ -81,16 +94,40 @@ ready_given told (Audit image) tables gives = tt
 ready_given told (Canon image) tables gives = tt
 ready_given told (Build listing) tables gives = gives.0
 ready_given told (Route image elcr) tables gives = tt
+ready_given told (Trace image script) tables gives = tt
+ready_given told (Boot image script) tables gives = tt
 
 pub IsReadyFor-given : (told : Option Files) (form : Form) (file : Named) (tables : Tables) → file ≡ source_of form → GivesTables told file tables → IsReadyFor form tables
 IsReadyFor-given told form file tables is gives = ready_given told form tables (subst (λ (f : Named). GivesTables told f tables) is gives)
+
+-- a form over tables alone has no further file, and its answer is that of its tables
+own_answer : (told : Option Files) (form : Form) (tables : Tables) (status : ℕ) (text : List ℕ) → IsAnswerTo form tables status text → (files_of form ≡ source_of form ∷ []) × IsAnswerBy told form tables status text
+own_answer told (Show image) tables status text h = (refl, h)
+own_answer told (Audit image) tables status text h = (refl, h)
+own_answer told (Canon image) tables status text h = (refl, h)
+own_answer told (Build listing) tables status text h = (refl, h)
+own_answer told (Route image elcr) tables status text h = (refl, h)
+own_answer told (Trace image script) tables status text h = absurd h
+own_answer told (Boot image script) tables status text h = absurd h
+
+-- a file that gives a form its tables is understood
+source_understood : (told : Option Files) (form : Form) (tables : Tables) → GivesTables told (source_of form) tables → IsUnderstood told (source_of form)
+source_understood told (Show image) tables gives = (tables, gives)
+source_understood told (Audit image) tables gives = (tables, gives)
+source_understood told (Canon image) tables gives = (tables, gives)
+source_understood told (Build listing) tables gives = (tables, gives)
+source_understood told (Route image elcr) tables gives = (tables, gives)
+source_understood told (Trace image script) tables gives = (tables, gives)
+source_understood told (Boot image script) tables gives = (tables, gives)
 
 -- what its tables give the form is due
 pub IsAnswerTo-due : (told : Option Files) (before after : Outside) (form : Form) (file : Named) (tables : Tables) (status : ℕ) (text : List ℕ) → file ≡ source_of form → GivesTables told file tables → IsWellFormed tables → tables.at < 2 ^ 32 → after.faults ≡ before.faults
     → IsAnswerTo form tables status text → IsDueOf told before after form status text
 IsAnswerTo-due told before after form file tables status text is gives low_form low kept answer =
     let own : GivesTables told (source_of form) tables = subst (λ (f : Named). GivesTables told f tables) is gives in
-    inl (inr (((tables, own), tt), (tables, low_form, low, own, answer)), λ three. absurd (not_absent form tables status text answer three), kept)
+    let h = own_answer told form tables status text answer in
+    let understood : AllByRecursion (IsUnderstood told) (files_of form) = subst (λ (fs : List Named). AllByRecursion (IsUnderstood told) fs) (sym h.0) (source_understood told form tables own, tt) in
+    inl (inr (understood, (tables, low_form, low, own, h.1)), λ three. absurd (not_absent form tables status text answer three), kept)
 
 -- the file that gives the form its tables is all that is asked for
 pub AsksOf-source : (told : Option Files) (form : Form) (file : Named) (before after : ℕ) → file ≡ source_of form → after ≤ before + most_of told file → (n : ℕ) × (after ≤ before + n) × AsksOf told (files_of form) n

@@ -8,7 +8,7 @@
 --     IsGivenBoard told file tables c       the config is that of the tables and the file's script
 --     no_pointer_line .. unfit_line         the lines of refusals, this project's own
 -- Where the files aren't told, what is left of these is the form of status and text.
-use Rattle.std.specs.Prelude.{◌≡◌, ◌≢◌, ◌<◌, ℕ, ◌^◌, List, [], ◌∷◌, Option, None, Some, ◌⊎◌, codes, decimal, ⊤}
+use Rattle.std.specs.Prelude.{◌≡◌, ◌<◌, ℕ, ◌^◌, List, [], ◌∷◌, Option, None, Some, ◌⊎◌, codes, decimal, ⊤}
 use Rattle.mpt_base.specs.Outside.{Files}
 use Rattle.mpt_base.specs.declared.fault.Reason.{Reason}
 use Rattle.mpt_base.specs.declared.fault.Reason.TheVariants as why
@@ -34,11 +34,10 @@ use Rattle.mpb_spec.specs.Configs.{IsStartableAt}
 use Rattle.mpb_spec.specs.Plan.{Plan, plan_size}
 use Rattle.mpb_script.specs.declared.script.Script.{Script as AScript}
 use Rattle.mpb_script.specs.declared.script.ScriptFault.{ScriptFault}
-use Rattle.mpb_script.specs.declared.script.ScriptFault.TheVariants as script_fault
 use Rattle.mpb_script.specs.Script.{IsScriptOf, HasFault}
 use Rattle.mpb_script.specs.Values.{HasScriptValues}
 use Rattle.mpb_boot.specs.Boot.{board_of, fault_of, IsTraceOf, IsBootOf}
-use Rattle.mpb_boot.specs.Lines.{script_fault_line, board_fault_line}
+use Rattle.mpb_boot.specs.Lines.{script_fault_line, board_fault_line, IsScriptFault}
 use Rattle.mptab_calls.specs.declared.words.Way.{Way}
 use Rattle.mptab_calls.specs.declared.words.Way.TheVariants as way
 use Rattle.mptab_calls.specs.Forms.{Form, Show, Audit, Canon, Build, Route, Trace, Boot, Named, Image, Listing, Script, source_of, limit_of, IsRead}
@@ -112,7 +111,7 @@ IsRefused told (Listing name) status text =
     ((status ≡ 8) × (n : ℕ) × (why : LineWhy) × IsRead told (Listing name) (λ listing. IsFirstBadLine IsListing listing n why) × (text ≡ bad_line_line n why))
     ⊎ ((status ≡ 8) × (tables : Tables) × IsRead told (Listing name) (λ listing. IsListingOf tables listing) × (¬ FitsInImage tables) × (text ≡ unfit_line (block_size tables.body)))
 IsRefused told (Script image name) status text =
-    ((status ≡ 8) × (f : ScriptFault) × (f ≢ script_fault.NoMemory) × IsRead told (Script image name) (λ script. HasFault script f) × (text ≡ script_fault_line f))
+    ((status ≡ 8) × (f : ScriptFault) × IsScriptFault f × IsRead told (Script image name) (λ script. HasFault script f) × (text ≡ script_fault_line f))
     ⊎ ((status ≡ 11) × (tables : Tables) × IsWellFormed tables × GivesTables told (Image image) tables × (s : AScript) × GivesScript told (Script image name) s × (e : BoardError) × (fault_of tables s ≡ Some e) × (text ≡ board_fault_line e))
 
 -- ---- forms

@@ -25,7 +25,11 @@ pub(crate) struct Answer {
 }
 
 /// Status and text that the tables give the form.
-pub(crate) fn answer_to(alloc: Global, command: TablesCommand, tables: Tables) -> Result<Answer, NoMemory>
+pub(crate) fn answer_to(
+    alloc: Global,
+    command: TablesCommand,
+    tables: Tables,
+) -> Result<Answer, NoMemory>
     requires well_formed { IsWellFormed tables }
     requires low { tables.at < 2 ^ 32 }
     requires ready { IsReadyFor (form_of_tables command) tables }

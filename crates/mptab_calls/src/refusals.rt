@@ -4,7 +4,7 @@ ghost use Rattle.std.specs.Prelude.{◌≡◌, map, IfOk};
 ghost use Rattle.mpt_base.specs.Reason.{reason_number};
 ghost use Rattle.mpt_listing.specs.Listing.{line};
 ghost use Rattle.mpt_listing.specs.Part.{part_text};
-ghost use Rattle.mpb_boot.specs.Lines.{script_fault_line, board_fault_line};
+ghost use Rattle.mpb_boot.specs.Lines.{script_fault_line, board_fault_line, IsScriptFault, IsBoardFault};
 ghost use Rattle.mptab_calls.specs.Commands.{no_pointer_line, reason_name, fault_line, line_why_name, bad_line_line, unfit_line};
 
 use crate::answer::Answer;
@@ -86,7 +86,7 @@ pub(crate) fn unfit(alloc: Global, size: u64) -> Result<Answer, NoMemory>
 
 /// The script has this first fault.
 pub(crate) fn bad_script(alloc: Global, fault: ScriptFault) -> Result<Answer, NoMemory>
-    ensures { IfOk result (λ a. (a.status ≡ 8) × (a.text.items ≡ script_fault_line fault)) }
+    ensures { IfOk result (λ a. (a.status ≡ 8) × (a.text.items ≡ script_fault_line fault) × IsScriptFault fault) }
 {
     let text = script_fault_line(alloc, fault)?;
     Ok(Answer {
@@ -97,7 +97,7 @@ pub(crate) fn bad_script(alloc: Global, fault: ScriptFault) -> Result<Answer, No
 
 /// Tables and script describe no board, for this reason.
 pub(crate) fn bad_board(alloc: Global, error: BoardError) -> Result<Answer, NoMemory>
-    ensures { IfOk result (λ a. (a.status ≡ 11) × (a.text.items ≡ board_fault_line error)) }
+    ensures { IfOk result (λ a. (a.status ≡ 11) × (a.text.items ≡ board_fault_line error) × IsBoardFault error) }
 {
     let text = board_fault_line(alloc, error)?;
     Ok(Answer {

@@ -14,8 +14,8 @@ use crate::file::{FileFailure, read_whole};
 use crate::refusals::{bad_board, bad_script};
 use crate::words::BoardCommand;
 use mpb_boot::board;
-use mpb_script::{ScriptFault, parse};
-use mpb_spec::{BoardError, Config};
+use mpb_script::parse;
+use mpb_spec::Config;
 use mpt_base::{Failed, Shelf};
 use mpt_table::Tables;
 use std::alloc::Global;
@@ -35,11 +35,11 @@ pub(crate) fn take_script<S: Shelf>(
     requires well_formed { IsWellFormed tables.now }
     ensures files_stay { S.files shelf.new ≡ S.files shelf.old }
     ensures unfailed { IfOk result (λ c. S.faults shelf.new ≡ S.faults shelf.old) }
-    ensures board { IfOk result (IsGivenBoard (S.files shelf.old) (AScript command.image.now command.script.now) tables.now) }
+    ensures board { IfOk result (IsGivenBoard (S.files shelf.old) (AScript command.entry.image.now command.entry.script.now) tables.now) }
     ensures ends { IfErr result (IsEnding (S.files shelf.old)
         (shelves (S.misses shelf.old) (S.misses shelf.new) (S.faults shelf.old) (S.faults shelf.new))
-        (AScript command.image.now command.script.now)) }
-    ensures asks { S.asked shelf.new ≤ S.asked shelf.old + most_of (S.files shelf.old) (AScript command.image.now command.script.now) }
+        (AScript command.entry.image.now command.entry.script.now)) }
+    ensures asks { S.asked shelf.new ≤ S.asked shelf.old + most_of (S.files shelf.old) (AScript command.entry.image.now command.entry.script.now) }
 {
     match shelf.size(command.script) {
         Ok(None) => Err(Ending::Absent),
@@ -63,11 +63,11 @@ fn script_of_size<S: Shelf>(
     requires within { size ≤ limit_of (AScript command.image.now command.script.now) }
     ensures files_stay { S.files shelf.new ≡ S.files shelf.old }
     ensures unfailed { IfOk result (λ c. S.faults shelf.new ≡ S.faults shelf.old) }
-    ensures board { IfOk result (IsGivenBoard (S.files shelf.old) (AScript command.image.now command.script.now) tables.now) }
+    ensures board { IfOk result (IsGivenBoard (S.files shelf.old) (AScript command.entry.image.now command.entry.script.now) tables.now) }
     ensures ends { IfErr result (IsEnding (S.files shelf.old)
         (shelves (S.misses shelf.old) (S.misses shelf.new) (S.faults shelf.old) (S.faults shelf.new))
-        (AScript command.image.now command.script.now)) }
-    ensures asks { S.asked shelf.new ≤ S.asked shelf.old + most_asked (AScript command.image.now command.script.now) size }
+        (AScript command.entry.image.now command.entry.script.now)) }
+    ensures asks { S.asked shelf.new ≤ S.asked shelf.old + most_asked (AScript command.entry.image.now command.entry.script.now) size }
 {
     let bytes = match read_whole(alloc, shelf, command.script, size) {
         Ok(bytes) => bytes,
@@ -76,12 +76,10 @@ fn script_of_size<S: Shelf>(
     };
     let script = match parse(alloc, bytes.as_slice()) {
         Ok(script) => script,
-        Err(ScriptFault::NoMemory) => return Err(Ending::NoMemory),
         Err(fault) => return Err(refused(bad_script(alloc, fault))),
     };
     match board(alloc, tables, &script) {
         Ok(config) => Ok(config),
-        Err(BoardError::NoMemory) => Err(Ending::NoMemory),
         Err(error) => Err(refused(bad_board(alloc, error))),
     }
 }

@@ -1,3 +1,4 @@
+pub mod BoardRows
 pub mod FitLaws
 pub mod Rows
 pub mod WalkLaws

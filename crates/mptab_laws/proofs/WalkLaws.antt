@@ -1,16 +1,16 @@
 -- The walk has an answer, and one alone. Nothing here names a command.
-use Rattle.std.proofs.Common.{◌≡◌, ℕ, ◌≤◌, ◌<◌, ◌⊎◌, Bool, true, false, List, [], ◌∷◌, length, Option, Some, None, refl, sym, subst, ◌∙◌, ap, inl, inr, arith, nat_lt}
+use Rattle.std.proofs.Common.{◌≡◌, ℕ, ◌≤◌, ◌<◌, ◌⊎◌, List, [], ◌∷◌, length, Option, Some, None, refl, sym, subst, ◌∙◌, ap, inl, inr, arith}
 use Rattle.std.specs.Prelude.{option_map, ⊤}
 use Rattle.std.specs.List.{AllByRecursion}
 use Rattle.std.proofs.lemmas.Bool.{cases_lt}
 use Rattle.mpt_base.specs.Outside.{Files}
 use Rattle.mpt_laws.proofs.EntryJudgment.{Decided}
 use Rattle.mptab_calls.specs.Texts.{usage_line, no_file_line, too_large_line}
-use Rattle.mptab_calls.specs.Forms.{Form, Named, IsForm, IsStill, IsAny, files_of, name_of, limit_of, IsRead}
-use Rattle.mptab_calls.specs.Commands.{IsUnderstood, IsRefused, IsText}
-use Rattle.mptab_calls.specs.Walk.{IsAnswer, IsAnswerOf, EndsAt, Reaches, IsListed, IsNoForm}
-use Rattle.mptab_laws.specs.Laws.{AreBytesTold, HasOneText, HaveOneText}
-use Rattle.mptab_laws.proofs.Rows.{refused_read, understood_read, refused_not_understood, refused_one, file_judged, text_one, text_given, same_form, form_judged, still_judged, still_one, IsRead-bytes, IsReady, AreReady, form_ready}
+use Rattle.mptab_calls.specs.Forms.{Form, Named, IsForm, files_of, name_of, limit_of}
+use Rattle.mptab_calls.specs.Commands.{IsUnderstood, IsRefused}
+use Rattle.mptab_calls.specs.Walk.{IsAnswer, IsAnswerOf, EndsAt, Reaches}
+use Rattle.mptab_laws.specs.Laws.{AreBytesTold, HasOneText}
+use Rattle.mptab_laws.proofs.Rows.{refused_read, understood_read, refused_not_understood, refused_one, file_judged, text_one, text_given, same_form, form_judged, IsRead-bytes, IsReady, AreReady, form_ready}
 
 -- ---- one
 
@@ -106,7 +106,7 @@ walk_judged files (f ∷ fs) ready = by_file (held_ends files f (files (name_of 
     by_file (inl u) rest = by_rest u (rest u)
 
 form_some : (files : Files) (form : Form) → AreBytesTold files → (s : ℕ) × (t : List ℕ) × IsAnswerOf (Some files) form s t
-form_some files form bytes = by_walk (walk_judged files (files_of form) (form_ready files form))
+form_some files form bytes = by_walk (walk_judged files (files_of form) (form_ready files form bytes))
   where
     by_walk : AllByRecursion (IsUnderstood (Some files)) (files_of form) ⊎ ((s : ℕ) × (t : List ℕ) × (file : Named) × Reaches (Some files) (files_of form) file × EndsAt (Some files) file s t) → (s : ℕ) × (t : List ℕ) × IsAnswerOf (Some files) form s t
     by_walk (inl all) = let g = text_given files form bytes all in (g.0, g.1, inr (all, g.2))

@@ -5,14 +5,15 @@
 use Rattle.std.specs.Prelude.{ℕ, List, IfSome, ⊤}
 use Rattle.mpt_base.specs.Outside.{Files}
 use Rattle.mpt_base.specs.Bytes.{IsByteList}
-use Rattle.mptab_calls.specs.Forms.{Form, IsForm}
+use Rattle.mptab_calls.specs.Forms.{Form, Boot, IsForm}
 
 -- each file is a list of bytes
 abbrev pub AreBytesTold : Files → Type 0
 AreBytesTold files = (name : List ℕ) → IfSome (files name) IsByteList
 
--- the form's text is one
+-- the form's text is one; a board may have many boots
 abbrev pub HasOneText : Form → Type 0
+HasOneText (Boot image script) = ⊥
 HasOneText form = ⊤
 
 -- words of a form whose text is one, or of none

@@ -22,7 +22,7 @@ pub fn answer_is_one()
     ensures any { (files : Files) (words : List (List ℕ)) (s u : ℕ) (t v : List ℕ) → HaveOneText words
         → IsAnswer IsAny (Some files) words s t → IsAnswer IsAny (Some files) words u v
         → (s ≡ u) × (t ≡ v) }
-    ensures still { (files : Files) (words : List (List ℕ)) (s u : ℕ) (t v : List ℕ)
+    ensures still { (files : Files) (words : List (List ℕ)) (s u : ℕ) (t v : List ℕ) → HaveOneText words
         → IsAnswer IsStill (Some files) words s t → IsAnswer IsStill (Some files) words u v
         → (s ≡ u) × (t ≡ v) }
 {}

@@ -1,4 +1,4 @@
-use Rattle.std.proofs.Common.{◌≡◌, None, ap, sym, ◌∙◌}
+use Rattle.std.proofs.Common.{ap, sym, ◌∙◌}
 use Rattle.mpt_route.specs.declared.platform.Platform.{Platform}
 use Rattle.mpb_setup.specs.Faults.{board_fault_of}
 use Rattle.mpb_boot.proofs.BoardLemmas.{none_against}

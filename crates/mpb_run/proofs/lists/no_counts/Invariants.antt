@@ -1,4 +1,4 @@
-use Rattle.std.proofs.Common.{◌≡◌, [], map, replicate}
+use Rattle.std.proofs.Common.{◌≡◌, map, replicate}
 use Rattle.mpb_run.proofs.lists.no_counts.Given as goal
 
 abbrev pub invariant-loop : goal.invariant-loop

@@ -14,28 +14,28 @@ returns-in-Ok-run_to_end-clause-complete c =
     let p = c.args.board.plan in
     let end = c.in-Ok-run_to_end.run' in
     is_complete p end c.ran.result.board.journal (logs_of c.ran.result.account) (counts_of c.ran.result.account) c.config.ensures.kept c.config.ensures.small
-      (end_of p c.in-Ok-new.run' end (ap (λ (q : Run). q.plan) c.in-Ok-new.ensures) c.in-Ok-run_to_end.ensures) c.ran.ensures.board.1 c.ran.ensures.logs c.ran.ensures.counts
+    (end_of p c.in-Ok-new.run' end (ap (λ (q : Run). q.plan) c.in-Ok-new.ensures) c.in-Ok-run_to_end.ensures) c.ran.ensures.board.1 c.ran.ensures.logs c.ran.ensures.counts
 
 pub returns-in-Ok-run_to_end-clause-accounts : goal.returns-in-Ok-run_to_end-clause-accounts
 returns-in-Ok-run_to_end-clause-accounts c =
     let p = c.args.board.plan in
     let end = c.in-Ok-run_to_end.run' in
     has_accounts p end c.ran.result.board.journal (logs_of c.ran.result.account) (counts_of c.ran.result.account) c.config.ensures.kept c.config.ensures.small
-      (end_of p c.in-Ok-new.run' end (ap (λ (q : Run). q.plan) c.in-Ok-new.ensures) c.in-Ok-run_to_end.ensures) c.ran.ensures.board.1 c.ran.ensures.logs c.ran.ensures.counts
+    (end_of p c.in-Ok-new.run' end (ap (λ (q : Run). q.plan) c.in-Ok-new.ensures) c.in-Ok-run_to_end.ensures) c.ran.ensures.board.1 c.ran.ensures.logs c.ran.ensures.counts
 
 pub returns-in-Ok-run_to_end-clause-collected : goal.returns-in-Ok-run_to_end-clause-collected
 returns-in-Ok-run_to_end-clause-collected c =
     let p = c.args.board.plan in
     let end = c.in-Ok-run_to_end.run' in
     counts_each p end c.ran.result.board.journal (logs_of c.ran.result.account) (counts_of c.ran.result.account) c.config.ensures.kept c.config.ensures.small
-      (end_of p c.in-Ok-new.run' end (ap (λ (q : Run). q.plan) c.in-Ok-new.ensures) c.in-Ok-run_to_end.ensures) c.ran.ensures.board.1 c.ran.ensures.logs c.ran.ensures.counts
+    (end_of p c.in-Ok-new.run' end (ap (λ (q : Run). q.plan) c.in-Ok-new.ensures) c.in-Ok-run_to_end.ensures) c.ran.ensures.board.1 c.ran.ensures.logs c.ran.ensures.counts
 
 pub returns-in-Ok-run_to_end-clause-started : goal.returns-in-Ok-run_to_end-clause-started
 returns-in-Ok-run_to_end-clause-started c =
     let p = c.args.board.plan in
     let end = c.in-Ok-run_to_end.run' in
     started_once_at p end c.ran.result.board.journal (logs_of c.ran.result.account) (counts_of c.ran.result.account) c.config.ensures.kept c.config.ensures.small
-      (end_of p c.in-Ok-new.run' end (ap (λ (q : Run). q.plan) c.in-Ok-new.ensures) c.in-Ok-run_to_end.ensures) c.ran.ensures.board.1 c.ran.ensures.logs c.ran.ensures.counts
+    (end_of p c.in-Ok-new.run' end (ap (λ (q : Run). q.plan) c.in-Ok-new.ensures) c.in-Ok-run_to_end.ensures) c.ran.ensures.board.1 c.ran.ensures.logs c.ran.ensures.counts
 
 pub returns-in-Ok-run_to_end-clause-plan : goal.returns-in-Ok-run_to_end-clause-plan
 returns-in-Ok-run_to_end-clause-plan c =

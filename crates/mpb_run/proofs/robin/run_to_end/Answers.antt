@@ -1,7 +1,7 @@
-use Rattle.std.proofs.Common.{◌≡◌, false, IsTrue, sym, ap, ◌∙◌}
+use Rattle.std.proofs.Common.{false, IsTrue, sym, ap, ◌∙◌}
 use Rattle.mpb_spec.specs.May.{IsQuiescent}
 use Rattle.mpb_run_laws.specs.RoundRobin.{Run, state_in, agents_of}
-use Rattle.mpb_run.proofs.RobinLemmas.{is_run, same_plan, one_round, less_left, at_end}
+use Rattle.mpb_run.proofs.RobinLemmas.{is_run, same_plan, one_round, less_left}
 use Rattle.mpb_run.proofs.robin.run_to_end.Goals as goal
 
 busy : (r : Run) → (IsQuiescent (state_in r) → IsTrue false) → ¬ IsQuiescent (state_in r)

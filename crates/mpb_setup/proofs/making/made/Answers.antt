@@ -7,7 +7,7 @@ use Rattle.mpb_spec.specs.declared.config.DevWord.{DevWord}
 use Rattle.mpb_spec.specs.Plan.{Plan, CpuPlan}
 use Rattle.mpb_spec.specs.Configs.{IsConfig}
 use Rattle.mpb_setup.specs.Boot.{boot_program_of}
-use Rattle.mpb_setup.specs.Board.{board_ids, cpu_plan_of}
+use Rattle.mpb_setup.specs.Board.{board_ids, cpu_plan_of, board_config_of}
 use Rattle.mpb_setup.specs.Steps.{HasPin}
 use Rattle.mpb_setup.proofs.PinLemmas.{have_pins}
 use Rattle.mpb_setup.proofs.FaultLemmas.{no_fault}
@@ -39,6 +39,7 @@ same_plan a b l m cs ds is js imcr vs ws ea el ec ei ev =
     ∙ ap (λ (x : List (List DevWord)). plan b m ds js imcr x) ev
 
 pub invariant_of-result : goal.invariant_of-result
+unfolding board_config_of
 invariant_of-result c =
     let p = c.args.p.now in
     let s = c.args.s.now in

@@ -25,7 +25,7 @@ returns-in-Err-answer_to-clause-due g c =
       ending_status NoMemory,
       ending_text c.name_in.result.now NoMemory,
       IsEnding-due (g.S.Shelf.files c.args.shelf.now) (outside (g.S.Shelf.misses c.args.shelf.now) (g.S.Shelf.faults c.args.shelf.now) (g.S.Shelf.asked c.args.shelf.now) (g.O.Sink.faults c.args.out.now) (g.O.Sink.written c.args.out.now)) (outside (g.S.Shelf.misses c.take.new.shelf) (g.S.Shelf.faults c.take.new.shelf) (g.S.Shelf.asked c.take.new.shelf) (g.O.Sink.faults c.refuse.new.out) (g.O.Sink.written c.refuse.new.out)) (form_of_tables c.args.command) (named_of c.source_named-source.result) c.name_in.result.now NoMemory c.source_named-source.ensures c.name_in.ensures
-          (IsEnding-given (g.S.Shelf.files c.args.shelf.now) (outside (g.S.Shelf.misses c.args.shelf.now) (g.S.Shelf.faults c.args.shelf.now) (g.S.Shelf.asked c.args.shelf.now) (g.O.Sink.faults c.args.out.now) (g.O.Sink.written c.args.out.now)) (outside (g.S.Shelf.misses c.take.new.shelf) (g.S.Shelf.faults c.take.new.shelf) (g.S.Shelf.asked c.take.new.shelf) (g.O.Sink.faults c.refuse.new.out) (g.O.Sink.written c.refuse.new.out)) (named_of c.source_named-source.result) c.in-Ok.tables facts.tables facts.unfailed),
+          (IsEnding-given (g.S.Shelf.files c.args.shelf.now) (outside (g.S.Shelf.misses c.args.shelf.now) (g.S.Shelf.faults c.args.shelf.now) (g.S.Shelf.asked c.args.shelf.now) (g.O.Sink.faults c.args.out.now) (g.O.Sink.written c.args.out.now)) (outside (g.S.Shelf.misses c.take.new.shelf) (g.S.Shelf.faults c.take.new.shelf) (g.S.Shelf.asked c.take.new.shelf) (g.O.Sink.faults c.refuse.new.out) (g.O.Sink.written c.refuse.new.out)) c.source_named-source.result c.in-Ok.tables facts.tables facts.unfailed),
       c.refuse.ensures,
     )
 

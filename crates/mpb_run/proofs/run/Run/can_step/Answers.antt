@@ -1,4 +1,4 @@
-use Rattle.std.proofs.Common.{◌≡◌, is_some, ap, ◌∙◌}
+use Rattle.std.proofs.Common.{is_some, ap, ◌∙◌}
 use Rattle.mpb_spec.specs.Journal.{final_state_of}
 use Rattle.mpb_spec.specs.Steps.{next_op}
 use Rattle.mpb_run_laws.specs.RoundRobin.{Run, state_in}

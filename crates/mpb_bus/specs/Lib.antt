@@ -1,0 +1,4 @@
+pub mod Agents
+pub mod Seats
+pub mod Turns
+pub mod Rule

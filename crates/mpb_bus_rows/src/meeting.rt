@@ -1,0 +1,70 @@
+//! What a meeting tells.
+
+ghost use Rattle.std.specs.Prelude.{◌≡◌, ◌∷◌, ◌++◌, [], IfOk, IfSome};
+ghost use Rattle.mpb_bus.specs.Agents.{IsPrefix, entries_of};
+
+use crate::boards::two_processors;
+use crate::harness::opened;
+use mpb_board::{Entry, Offer, Op};
+use mpb_bus::{Bus, BusSeat, Turn};
+use std::alloc::Global;
+use std::sync::Wait;
+use std::test::Fail;
+
+/// The entry of a turn that is made.
+fn entry_of<R: Wait>(rt: &R, bus: &Bus, seat: &mut BusSeat) -> Option<Entry>
+    requires { seat.old.bus ≡ bus.now.bus }
+    ensures seat { (seat.new.bus ≡ bus.now.bus) × (seat.new.agent ≡ seat.old.agent) }
+    ensures mine { IfSome result (λ x. seat.new.mine ≡ seat.old.mine ++ x ∷ []) }
+    ensures seen { seat.new.mine ≡ entries_of seat.new.agent seat.new.seen }
+{
+    match bus.turn(rt, seat, Offer::Next) {
+        Turn::Done(entry) => Some(entry),
+        Turn::Idle | Turn::Quiet | Turn::NoMemory => None,
+    }
+}
+
+/// Three turns of `one`, each of which is made, and then a meeting: what `two` has seen holds the three
+/// entries, behind what the agent of `one` had done before.
+fn three_turns_and_a_meeting<R: Wait>(
+    rt: &R,
+    bus: &Bus,
+    one: &mut BusSeat,
+    two: &mut BusSeat,
+) -> Option<(Entry, Entry, Entry)>
+    requires { (one.old.bus ≡ bus.now.bus) × (two.old.bus ≡ bus.now.bus) }
+    ensures two { two.new.bus ≡ bus.now.bus }
+    ensures told { IfSome result (λ x. IsPrefix (one.old.mine ++ x.0 ∷ x.1 ∷ x.2 ∷ []) (entries_of one.old.agent two.new.seen)) }
+{
+    let first = entry_of(rt, bus, one)?;
+    let second = entry_of(rt, bus, one)?;
+    let third = entry_of(rt, bus, one)?;
+    bus.meet(rt, one, two);
+    Some((first, second, third))
+}
+
+/// A bus over two processors, of which the second makes a pause, and its two seats.
+fn two_seats(alloc: Global) -> Result<(Bus, BusSeat, BusSeat), Fail>
+    ensures { IfOk result (λ made. (made.1.bus ≡ made.0.bus) × (made.2.bus ≡ made.0.bus)) }
+{
+    let (bus, mut seats) = opened(alloc, two_processors(alloc, &[Op::Pause(1)])?)?;
+    let two = seats.pop().ok_or("no seats")?;
+    let one = seats.pop().ok_or("no two seats")?;
+    Ok((bus, one, two))
+}
+
+#[test]
+fn meeting_tells_three_entries(rt: HostRuntime) -> Result<(), Fail> {
+    let (bus, mut one, mut two) = two_seats(rt.alloc())?;
+    let Some((first, second, third)) = three_turns_and_a_meeting(&rt, &bus, &mut one, &mut two)
+    else {
+        panic!(rt; "no three entries");
+    };
+    assert!(rt; first.op == Op::Init(1) && second.op == Op::Pause(10_000));
+    assert!(rt; third.op == Op::Startup(1, 0x9F));
+    let Some(fourth) = entry_of(&rt, &bus, &mut two) else {
+        panic!(rt; "no fourth entry");
+    };
+    assert!(rt; fourth.op == Op::Pause(1));
+    Ok(())
+}

@@ -1,0 +1,40 @@
+//! A journal by a walk of a second board.
+
+ghost use Rattle.std.specs.Prelude.{◌<◌, ◌^◌};
+ghost use Rattle.mpb_spec.specs.Plan.{plan_size};
+
+use mpb_board::{Board, Config, Entry, Offer, Op};
+use mpt_base::NoMemory;
+use std::alloc::Global;
+
+/// The offer with which an op is made.
+fn offer_of(op: Op) -> Offer {
+    match op {
+        Op::Collect(pins) => Offer::Collect(pins),
+        Op::Sweep => Offer::Sweep,
+        _ => Offer::Next,
+    }
+}
+
+/// Whether two entries are the same.
+fn same(one: &Entry, two: &Entry) -> bool {
+    one.agent == two.agent && one.op == two.op && one.outcomes.as_slice() == two.outcomes.as_slice()
+}
+
+/// Whether a new board of the config makes these entries, one after the other, and is then at its end.
+pub(crate) fn is_walked(alloc: Global, config: Config, journal: &[Entry]) -> Result<bool, NoMemory>
+    requires { plan_size config < 2 ^ 32 }
+{
+    let mut board = Board::new(alloc, config)?;
+    for entry in journal {
+        let offer = offer_of(entry.op);
+        if !board.can_step(entry.agent, offer) {
+            return Ok(false);
+        }
+        let made = board.step(entry.agent, offer)?;
+        if !same(&made, entry) {
+            return Ok(false);
+        }
+    }
+    Ok(board.quiet())
+}

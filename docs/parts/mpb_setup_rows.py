@@ -1,0 +1,100 @@
+"""Prints the rows of mpb_setup.md as a table of Rust: name, listing, script, answer. Scratch for the tests of the command."""
+HEAD='mptable 1\npointer at 000F0000 table 000F0010 revision 04 features 00%s000000\nheader revision 04 oem "MPTAB   " product "BOARD       " oemtable 00000000 oemsize 0000 local FEE00000 reserved 00\n'
+def cpu(id,version=0x10,flags=1): return 'processor id %02X version %02X flags %02X signature 00000000 features 00000000 reserved 0000000000000000\n'%(id,version,flags)
+def boot(id,version=0x10): return cpu(id,version,3)
+def bus(id,name): return 'bus id %02X name "%s"\n'%(id,name.ljust(6))
+def io(id,flags=1): return 'ioapic id %02X version 11 flags %02X address FEC00000\n'%(id,flags)
+def ioint(bus,irq,dest,pin,kind=0,flags=0): return 'ioint kind %02X flags %04X bus %02X irq %02X dest %02X pin %02X\n'%(kind,flags,bus,irq,dest,pin)
+def listing(*entries, imcr=False): return HEAD%('80' if imcr else '00')+''.join(entries)+'end\n'
+def default(n, imcr=False): return 'mptable 1\npointer at 0009FC00 table 00000000 revision 04 features %02X%s000000\nend\n'%(n,'80' if imcr else '00')
+P='page = 0x9F\n'
+rows=[]
+def row(name,l,s,e): rows.append((name,l,s,e))
+two=[boot(0),cpu(1)]
+# each refusal alone
+row('no processor',listing(io(0)),P,'no boot processor')
+row('boot bit without enabled',listing(cpu(0,0x10,2),cpu(1)),P,'no boot processor')
+row('enabled without boot bit',listing(cpu(0),cpu(1)),P,'no boot processor')
+row('two enabled processors with one id',listing(boot(0),cpu(3),cpu(5),cpu(5),cpu(3)),P,'double id 03')
+row('an id with the boot processor',listing(boot(4),cpu(4)),P,'double id 04')
+row('a disabled one with the id of an enabled one',listing(boot(0),cpu(1),cpu(1,0x10,0)),P,'ok')
+row('two enabled I/O APICs with one id',listing(boot(0),io(7),io(2),io(7),io(2)),P,'double id 02')
+row('a disabled I/O APIC with the id of an enabled one',listing(boot(0),io(2),io(2,0)),P,'ok')
+row('a processor and an I/O APIC with one id',listing(boot(2),io(2)),P,'ok')
+row('processors before I/O APICs',listing(boot(0),cpu(9),cpu(9),io(2),io(2)),P,'double id 09')
+row('wide id',listing(boot(0),cpu(255)),P,'wide id FF')
+row('a disabled processor with id 255',listing(boot(0),cpu(255,0x10,0)),P,'ok')
+row('id 254',listing(boot(0),cpu(254)),P,'ok')
+row('two of id 255',listing(boot(0),cpu(255),cpu(255)),P,'double id FF')
+row('boot id 255',listing(boot(255)),P,'wide id FF')
+row('boot id 14',listing(boot(14),cpu(0)),P,'ok')
+row('boot id 15',listing(boot(15),cpu(0)),P,'boot wide 0F')
+row('boot id 254',listing(boot(254),cpu(0)),P,'boot wide FE')
+row('boot absent',listing(*two),P+'present = [1]\n','boot absent 00')
+row('present empty',listing(*two),P+'present = []\n','boot absent 00')
+row('present names strangers alone',listing(*two),P+'present = [7, 254]\n','boot absent 00')
+row('present names strangers too, doubled',listing(*two),P+'present = [9, 1, 0, 0, 9]\n','ok')
+row('present names a disabled processor',listing(boot(0),cpu(1,0x10,0)),P+'present = [0, 1]\n','ok')
+row('8 processors',listing(boot(0),*[cpu(i) for i in range(1,8)]),P,'ok')
+row('9 processors',listing(boot(0),*[cpu(i) for i in range(1,9)]),P,'many processors 9')
+row('9 processors of which 8 are present',listing(boot(0),*[cpu(i) for i in range(1,9)]),P+'present = [8, 7, 6, 5, 4, 3, 2, 0]\n','ok')
+row('255 processors',listing(boot(0),*[cpu(i) for i in range(1,255)]),P,'many processors 255')
+row('255 processors, the boot processor alone present',listing(boot(0),*[cpu(i) for i in range(1,255)]),P+'present = [0]\n','ok')
+row('4 I/O APICs',listing(boot(0),*[io(i) for i in range(4)]),P,'ok')
+row('5 I/O APICs',listing(boot(0),*[io(i) for i in range(5)]),P,'many ioapics 5')
+row('5 I/O APICs of which one is disabled',listing(boot(0),*[io(i,0 if i==2 else 1) for i in range(5)]),P,'ok')
+row('256 I/O APICs',listing(boot(0),*[io(i) for i in range(256)]),P,'many ioapics 256')
+W='cpu = [{ id = 0, words = ["iosel 2 1", "ioread 1"] }]\n'
+row('a word of a place that is not there',listing(boot(0),io(0)),P+W,'no ioapic 1')
+row('the same with two I/O APICs',listing(boot(0),io(0),io(1)),P+W,'no ioapic 2')
+row('the same with three',listing(boot(0),io(0),io(1),io(2)),P+W,'ok')
+row('iowin',listing(boot(0)),P+'cpu = [{ id = 0, words = ["iowin 0 0"] }]\n','no ioapic 0')
+row('a word of a stranger',listing(boot(0)),P+'cpu = [{ id = 5, words = ["iowin 0 0"] }]\n','ok')
+row('a word of an absent processor',listing(*two),P+'present = [0]\ncpu = [{ id = 1, words = ["iowin 0 0"] }]\n','ok')
+row('a word of a device',listing(boot(0),io(0)),P+'device = [{ words = ["pulse 0 23"] }, { words = ["high 3 0", "low 2 1"] }]\n','no ioapic 2')
+row('a pulse alone',listing(boot(0)),P+'device = [{ words = ["pulse 0 0"] }]\n','no ioapic 0')
+row('a device before a processor',listing(boot(0),io(0)),P+'cpu = [{ id = 0, words = ["ioread 3"] }]\ndevice = [{ words = ["low 1 0"] }]\n','no ioapic 1')
+row('other words name no place',listing(boot(0)),P+'cpu = [{ id = 0, words = ["ipi 255 255", "nmi 3", "poll", "eoi", "tpr 255", "pause 1000000"] }]\n','ok')
+# pairs that stand together
+row('no boot processor and a double id',listing(cpu(3),cpu(3)),P,'no boot processor')
+row('no boot processor and no I/O APIC',listing(cpu(0)),P+W,'no boot processor')
+row('double id and wide id',listing(boot(0),cpu(255),cpu(3),cpu(3)),P,'double id 03')
+row('double id of I/O APICs and wide id',listing(boot(0),cpu(255),io(6),io(6)),P,'double id 06')
+row('wide id and boot wide',listing(boot(20),cpu(255)),P,'wide id FF')
+row('double id and boot wide',listing(boot(20),cpu(3),cpu(3)),P,'double id 03')
+row('boot wide and boot absent',listing(boot(20),cpu(1)),P+'present = [1]\n','boot wide 14')
+row('boot absent and 9 processors',listing(boot(0),*[cpu(i) for i in range(1,10)]),P+'present = [1, 2, 3, 4, 5, 6, 7, 8, 9]\n','boot absent 00')
+row('wide id and boot absent',listing(boot(0),cpu(255)),P+'present = [1]\n','wide id FF')
+row('9 processors and 5 I/O APICs',listing(boot(0),*[cpu(i) for i in range(1,9)],*[io(i) for i in range(5)]),P,'many processors 9')
+row('9 processors and no I/O APIC',listing(boot(0),*[cpu(i) for i in range(1,9)]),P+W,'many processors 9')
+row('boot absent and no I/O APIC',listing(*two),P+'present = [1]\ncpu = [{ id = 1, words = ["ioread 0"] }]\n','boot absent 00')
+row('5 I/O APICs of which two have one id',listing(boot(0),io(0),io(1),io(2),io(3),io(1)),P,'double id 01')
+# boards
+row('default 1',default(1),P,'ok')
+row('default 2',default(2),P,'ok')
+row('default 3',default(3),P,'ok')
+row('default 4',default(4),P,'ok')
+row('default 5',default(5),P,'ok')
+row('default 6',default(6),P,'ok')
+row('default 7',default(7),P,'ok')
+row('default 5 with IMCRP',default(5,True),P,'ok')
+row('default 6, second processor alone',default(6),P+'present = [1]\n','boot absent 00')
+row('default 6, place 1',default(6),P+'device = [{ words = ["high 1 0"] }]\n','no ioapic 1')
+# boot programs
+row('two processors',listing(*two),P,'ok program init 01, pause 10000, startup 01 9F, pause 200, startup 01 9F, pause 200, check 01')
+row('an older one and an absent one',listing(boot(0),cpu(1,0x01),cpu(2)),P+'present = [0, 1]\n','ok program warm 9F, init 01, pause 10000, check 01, init 02, pause 10000, startup 02 9F, pause 200, startup 02 9F, pause 200, check 02')
+row('version 0Fh',listing(boot(0),cpu(1,0x0F)),P,'ok program warm 9F, init 01, pause 10000, check 01')
+row('the boot processor last, a disabled one between',listing(cpu(5),cpu(6,0x10,0),boot(1)),P,'ok program init 05, pause 10000, startup 05 9F, pause 200, startup 05 9F, pause 200, check 05')
+row('two with the boot bit',listing(boot(2),boot(1)),P,'ok program init 01, pause 10000, startup 01 9F, pause 200, startup 01 9F, pause 200, check 01')
+row('IMCR and two rows, high word before low word',listing(boot(3),bus(0,'PCI'),bus(1,'ISA'),io(4),io(8),ioint(0,0,8,16),ioint(0,0,8,16),ioint(1,1,4,1),imcr=True),P,'ok program imcr, iosel 1 49, iowin 1 50331648, iosel 1 48, iowin 1 41032, iosel 0 19, iowin 0 50331648, iosel 0 18, iowin 0 33')
+
+
+def literal(text):
+    return '"' + text.replace("\\", "\\\\").replace('"', '\\"').replace("\n", "\\n") + '"'
+
+
+if __name__ == "__main__":
+    print("pub(crate) const ROWS: [(&str, &str, &str, &str); %d] = [" % len(rows))
+    for row_ in rows:
+        print("    (%s)," % ", ".join(literal(part) for part in row_))
+    print("];")
