@@ -1,0 +1,167 @@
+//! Words that are no form, files that aren't there, and calls of shelf and sink that fail one by one.
+
+use crate::harness::{
+    Answer, BOTH, IMAGE, NOTHING, ONE, SCRIPT, answer_of, script_of, shelf_of, words_of,
+};
+use mpt_base::{MemShelf, MemSink};
+use mptab_calls::run;
+use std::alloc::Global;
+use std::test::Fail;
+
+const USAGE: &str = "mptab: usage\n";
+
+/// Words, and the status and text that answer them, where an image, a script, and an image whose tables are
+/// refused are there.
+const WORDS: &[(&[&str], u8, &str)] = &[
+    (&["trace"], 2, USAGE),
+    (&["trace", IMAGE], 2, USAGE),
+    (&["trace", IMAGE, SCRIPT, SCRIPT], 2, USAGE),
+    (&["Trace", IMAGE, SCRIPT], 2, USAGE),
+    (&["boot"], 2, USAGE),
+    (&["boot", SCRIPT], 2, USAGE),
+    (&["boot", IMAGE, SCRIPT, SCRIPT], 2, USAGE),
+    (&["boot ", IMAGE, SCRIPT], 2, USAGE),
+    (&["trace", IMAGE, "x"], 3, "mptab: no file x\n"),
+    (&["boot", IMAGE, ""], 3, "mptab: no file \n"),
+    (&["trace", "x", SCRIPT], 3, "mptab: no file x\n"),
+    (&["boot", "x", "y"], 3, "mptab: no file x\n"),
+    (&["trace", SCRIPT, "x"], 6, "mptab: no floating pointer\n"),
+    (&["boot", SCRIPT, IMAGE], 6, "mptab: no floating pointer\n"),
+    (
+        &["trace", "bad", "x"],
+        7,
+        "mptab: fault 2 BadDefault at 0000040B\n",
+    ),
+    (
+        &["boot", "bad", SCRIPT],
+        7,
+        "mptab: fault 2 BadDefault at 0000040B\n",
+    ),
+    (&["trace", IMAGE, IMAGE], 8, "mptab: script not toml\n"),
+    (&["trace", IMAGE, SCRIPT], 0, NOTHING),
+    (&["boot", IMAGE, SCRIPT], 0, NOTHING),
+];
+
+/// A floating pointer at 400h whose last bytes are the word that names 400h, with default configuration 8.
+const BAD_POINTER: &[u8] = b"_MP_\x00\x00\x00\x00\x01\x04\x58\x08\x00\x00\x40\x00";
+
+/// The shelf of these rows.
+fn shelf_of_words(alloc: Global) -> Result<MemShelf, Fail> {
+    let mut bad = vec![in alloc; 0; 0x400]?;
+    bad.extend_from_slice(BAD_POINTER)?;
+    let mut shelf = shelf_of(alloc, &ONE, b"page = 0x9F\n")?;
+    shelf.add("bad", bad.as_slice())?;
+    Ok(shelf)
+}
+
+#[test]
+fn words(rt: HostRuntime) -> Result<(), Fail> {
+    let mut shelf = shelf_of_words(rt.alloc())?;
+    for (n, (words, status, text)) in WORDS.iter().enumerate() {
+        let answer = answer_of(rt.alloc(), words, &mut shelf, 0)?;
+        assert!(rt; answer.is(*status, text), "row {n}");
+    }
+    Ok(())
+}
+
+#[test]
+fn top_call(rt: HostRuntime) -> Result<(), Fail> {
+    let mut shelf = shelf_of(rt.alloc(), &ONE, b"page = 0x9F\n")?;
+    let mut sink = MemSink::new(rt.alloc(), 1024)?;
+    let words = words_of(rt.alloc(), &["boot", IMAGE, SCRIPT])?;
+    let status = run(&rt, rt.alloc(), words.as_slice(), &mut shelf, &mut sink);
+    assert!(rt; status == 0 && sink.bytes() == NOTHING.as_bytes());
+    Ok(())
+}
+
+/// The answer of a command to one processor that waits 200 times, where a call of the shelf fails and a put of
+/// the sink; 0 is none.
+fn long_answer(alloc: Global, command: &str, call: u64, put: u64) -> Result<Answer, Fail> {
+    let script = script_of(alloc, "\"pause 1\",", 200, 0)?;
+    let mut shelf = shelf_of(alloc, &ONE, script.as_slice())?;
+    shelf.fail(call)?;
+    answer_of(alloc, &[command, IMAGE, SCRIPT], &mut shelf, put)
+}
+
+/// Its report, which is longer than a piece of 4,096 bytes and no longer than two.
+fn long_report(alloc: Global) -> Result<String, Fail> {
+    let mut text = String::from_str(alloc, "mpboot 1\nentries 200\n")?;
+    for k in 0..200 {
+        let line = format!(in alloc; "{k} cpu 00 pause 1 : done\n")?;
+        text.push_str(line.as_str())?;
+    }
+    text.push_str("state imcr none\nstate cpu 00 first tpr 00 irr - isr - tmr -\nend\n")?;
+    Ok(text)
+}
+
+const IMAGE_UNREAD: &str = "mptab: cannot read board.img\n";
+
+const SCRIPT_UNREAD: &str = "mptab: cannot read boot.toml\n";
+
+/// A call of the shelf that fails, and the line: of the image its size, two words, the EBDA's area, header and
+/// table; of the script its size and its bytes.
+const CALLS: &[(u64, &str)] = &[
+    (1, IMAGE_UNREAD),
+    (2, IMAGE_UNREAD),
+    (3, IMAGE_UNREAD),
+    (4, IMAGE_UNREAD),
+    (5, IMAGE_UNREAD),
+    (6, IMAGE_UNREAD),
+    (7, SCRIPT_UNREAD),
+    (8, SCRIPT_UNREAD),
+];
+
+/// The first call of the shelf whose failure has another answer.
+fn first_wrong_call(alloc: Global, command: &str) -> Result<Option<u64>, Fail> {
+    for (call, line) in CALLS {
+        let answer = long_answer(alloc, command, *call, 0)?;
+        if !answer.is(4, line) {
+            return Ok(Some(*call));
+        }
+    }
+    Ok(None)
+}
+
+#[test]
+fn calls_of_the_shelf(rt: HostRuntime) -> Result<(), Fail> {
+    for command in BOTH {
+        assert_eq!(rt; first_wrong_call(rt.alloc(), command)?, None);
+    }
+    Ok(())
+}
+
+/// A call of the shelf and a put of the sink that fail, the status, and the most bytes of the report that are
+/// written. There are eight calls and two puts.
+const PUTS: &[(u64, u64, u8, usize)] = &[
+    (0, 1, 5, 0),
+    (0, 2, 5, 4096),
+    (9, 3, 0, 8192),
+    (8, 1, 5, 0),
+];
+
+#[test]
+fn puts_of_the_sink(rt: HostRuntime) -> Result<(), Fail> {
+    let report = long_report(rt.alloc())?;
+    for (call, put, status, most) in PUTS {
+        let answer = long_answer(rt.alloc(), "trace", *call, *put)?;
+        let whole = report.as_str().as_bytes();
+        let written = whole.get(..*most).unwrap_or(whole);
+        assert!(rt;
+            answer.status == *status && answer.text.as_slice() == written,
+            "put {put}"
+        );
+    }
+    Ok(())
+}
+
+/// For runs outside the gate, in each of which one allocation fails: this test alone accepts status 9. Where its
+/// own image, script or words wanted the memory, it ends with that error.
+#[test]
+fn want_of_memory(rt: HostRuntime) -> Result<(), Fail> {
+    for (call, put, status) in [(0, 0, 0), (7, 0, 4), (8, 0, 4), (0, 1, 5), (0, 2, 5)] {
+        let answer = long_answer(rt.alloc(), "trace", call, put)?;
+        let refused = answer.is(9, "mptab: no memory\n");
+        assert!(rt; refused || answer.status == status, "status {status}");
+    }
+    Ok(())
+}

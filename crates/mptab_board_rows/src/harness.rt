@@ -1,0 +1,158 @@
+//! What every theme stands on: a row, the image of its tables, and the answer of the top call.
+
+use crate::tables::{Entry, Tables, listing_of};
+use mpt_base::{MemShelf, MemSink};
+use mptab_calls::run_still;
+use std::alloc::Global;
+use std::test::Fail;
+
+/// The name under which an image lies on the shelf.
+pub(crate) const IMAGE: &str = "board.img";
+
+/// The name under which a script lies on the shelf.
+pub(crate) const SCRIPT: &str = "boot.toml";
+
+/// Both commands.
+pub(crate) const BOTH: &[&str] = &["trace", "boot"];
+
+/// One processor.
+pub(crate) const ONE: Tables = Tables::Listed(&[Entry::Boot(0)], "");
+
+/// The report of one processor without words.
+pub(crate) const NOTHING: &str = "mpboot 1
+entries 0
+state imcr none
+state cpu 00 first tpr 00 irr - isr - tmr -
+end
+";
+
+/// The room of a sink: an image of 1 MiB, more than any report of these rows.
+const ROOM: usize = 0x100000;
+
+/// Tables, a script, and what a command answers to them.
+pub(crate) struct Row {
+    /// Why the answer is what it is.
+    pub(crate) name: &'static str,
+    pub(crate) tables: Tables,
+    pub(crate) script: &'static str,
+    pub(crate) status: u8,
+    /// The whole text; or, where it doesn't end with the line `end`, the first lines of a report.
+    pub(crate) text: &'static str,
+}
+
+/// A status, and what was written.
+#[derive(Drop)]
+pub(crate) struct Answer {
+    pub(crate) status: u8,
+    pub(crate) text: Vec<u8>,
+}
+
+impl Answer {
+    /// Whether it is this status with this text; where the text is no whole report, with a whole report that
+    /// begins with it.
+    pub(crate) fn is(&self, status: u8, text: &str) -> bool {
+        let written = self.text.as_slice();
+        if self.status != status {
+            false
+        } else if status == 0 && !text.ends_with("\nend\n") {
+            written.starts_with(text.as_bytes()) && written.ends_with(b"\nend\n")
+        } else {
+            written == text.as_bytes()
+        }
+    }
+}
+
+/// These words, as the top call takes them.
+pub(crate) fn words_of(alloc: Global, words: &[&str]) -> Result<Vec<String>, Fail> {
+    let mut owned = Vec::new(alloc);
+    for word in words {
+        owned.push(String::from_str(alloc, word)?)?;
+    }
+    Ok(owned)
+}
+
+/// The answer to these words. The put of this number fails; 0 is none.
+pub(crate) fn answer_of(
+    alloc: Global,
+    words: &[&str],
+    shelf: &mut MemShelf,
+    failing: u64,
+) -> Result<Answer, Fail> {
+    let owned = words_of(alloc, words)?;
+    let mut sink = MemSink::new(alloc, ROOM)?;
+    sink.fail(failing)?;
+    let status = run_still(alloc, owned.as_slice(), shelf, &mut sink);
+    let text = Vec::from_slice(alloc, sink.bytes())?;
+    Ok(Answer { status, text })
+}
+
+/// A shelf with the listing of these tables.
+fn listed(alloc: Global, tables: &Tables) -> Result<MemShelf, Fail> {
+    let listing = listing_of(alloc, tables)?;
+    let mut shelf = MemShelf::new(alloc);
+    shelf.add("list", listing.as_str().as_bytes())?;
+    Ok(shelf)
+}
+
+/// A shelf with this script and with the image that `build` makes of these tables.
+pub(crate) fn shelf_of(alloc: Global, tables: &Tables, script: &[u8]) -> Result<MemShelf, Fail> {
+    let mut shelf = listed(alloc, tables)?;
+    let built = answer_of(alloc, &["build", "list"], &mut shelf, 0)?;
+    let mut shelf = MemShelf::new(alloc);
+    shelf.add(IMAGE, built.text.as_slice())?;
+    shelf.add(SCRIPT, script)?;
+    Ok(shelf)
+}
+
+/// The answer of a command to tables and a script, where no call fails.
+pub(crate) fn answer_to(
+    alloc: Global,
+    command: &str,
+    tables: &Tables,
+    script: &[u8],
+) -> Result<Answer, Fail> {
+    let mut shelf = shelf_of(alloc, tables, script)?;
+    answer_of(alloc, &[command, IMAGE, SCRIPT], &mut shelf, 0)
+}
+
+/// Whether each command answers as the row says.
+fn is_answered(alloc: Global, commands: &[&str], row: &Row) -> Result<bool, Fail> {
+    for command in commands {
+        let answer = answer_to(alloc, command, &row.tables, row.script.as_bytes())?;
+        if !answer.is(row.status, row.text) {
+            return Ok(false);
+        }
+    }
+    Ok(true)
+}
+
+/// The name of the first row to which one of these commands has another answer.
+pub(crate) fn first_wrong(
+    alloc: Global,
+    commands: &[&str],
+    rows: &[Row],
+) -> Result<Option<&'static str>, Fail> {
+    for row in rows {
+        if !is_answered(alloc, commands, row)? {
+            return Ok(Some(row.name));
+        }
+    }
+    Ok(None)
+}
+
+/// The script with this word so many times for processor 0, and a comment that fills it up to a size.
+pub(crate) fn script_of(
+    alloc: Global,
+    word: &str,
+    times: usize,
+    size: usize,
+) -> Result<Vec<u8>, Fail> {
+    let mut text = Vec::from_slice(alloc, b"page = 0x9F\n[[cpu]]\nid = 0\nwords = [")?;
+    for _ in 0..times {
+        text.extend_from_slice(word.as_bytes())?;
+    }
+    text.extend_from_slice(b"]\n#")?;
+    let rest = vec![in alloc; b' '; size.saturating_sub(text.len())]?;
+    text.extend_from_slice(rest.as_slice())?;
+    Ok(text)
+}

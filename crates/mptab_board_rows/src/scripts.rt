@@ -1,0 +1,180 @@
+//! Scripts that are refused, each key and each word's cause, and scripts at their limits.
+
+use crate::harness::{BOTH, NOTHING, ONE, Row, answer_to, first_wrong, script_of};
+use crate::tables::{Entry, Tables};
+use std::test::Fail;
+
+/// Scripts that are refused, the last two before their boards.
+const REFUSED: &[Row] = &[
+    Row {
+        name: "no TOML",
+        tables: ONE,
+        script: "page =",
+        status: 8,
+        text: "mptab: script not toml\n",
+    },
+    Row {
+        name: "no key at all",
+        tables: ONE,
+        script: "",
+        status: 8,
+        text: "mptab: script key page\n",
+    },
+    Row {
+        name: "a page of the range that is none",
+        tables: ONE,
+        script: "page = 0xA0",
+        status: 8,
+        text: "mptab: script key page\n",
+    },
+    Row {
+        name: "the last page of that range",
+        tables: ONE,
+        script: "page = 0xBF",
+        status: 8,
+        text: "mptab: script key page\n",
+    },
+    Row {
+        name: "page 256",
+        tables: ONE,
+        script: "page = 256",
+        status: 8,
+        text: "mptab: script key page\n",
+    },
+    Row {
+        name: "a page below 0",
+        tables: ONE,
+        script: "page = -1",
+        status: 8,
+        text: "mptab: script key page\n",
+    },
+    Row {
+        name: "an ELCR of 17 bits",
+        tables: ONE,
+        script: "page = 1\nelcr = 65536",
+        status: 8,
+        text: "mptab: script key elcr\n",
+    },
+    Row {
+        name: "id 255 present",
+        tables: ONE,
+        script: "page = 1\npresent = [255]",
+        status: 8,
+        text: "mptab: script key present\n",
+    },
+    Row {
+        name: "a number for the processors",
+        tables: ONE,
+        script: "page = 1\ncpu = 1",
+        status: 8,
+        text: "mptab: script key cpu\n",
+    },
+    Row {
+        name: "words of processor 255",
+        tables: ONE,
+        script: "page = 1\ncpu = [{ id = 255, words = [] }]",
+        status: 8,
+        text: "mptab: script key cpu.id\n",
+    },
+    Row {
+        name: "a processor without words",
+        tables: ONE,
+        script: "page = 1\ncpu = [{ id = 0 }]",
+        status: 8,
+        text: "mptab: script key cpu.words\n",
+    },
+    Row {
+        name: "a number for the devices",
+        tables: ONE,
+        script: "page = 1\ndevice = 1",
+        status: 8,
+        text: "mptab: script key device\n",
+    },
+    Row {
+        name: "a device without words",
+        tables: ONE,
+        script: "page = 1\ndevice = [{}]",
+        status: 8,
+        text: "mptab: script key device.words\n",
+    },
+    Row {
+        name: "a key that no script has",
+        tables: ONE,
+        script: "page = 1\nmore = 1",
+        status: 8,
+        text: "mptab: script key unknown\n",
+    },
+    Row {
+        name: "vector 256",
+        tables: ONE,
+        script: "page = 1\ncpu = [{ id = 0, words = [\"take\", \"eoi\", \"ipi 0 256\"] }]",
+        status: 8,
+        text: "mptab: script word cpu 00 index 2 Range\n",
+    },
+    Row {
+        name: "an interrupt without a vector",
+        tables: ONE,
+        script: "page = 1\ncpu = [{ id = 171, words = [\"ipi 0\"] }]",
+        status: 8,
+        text: "mptab: script word cpu AB index 0 Count\n",
+    },
+    Row {
+        name: "no number, before its range",
+        tables: ONE,
+        script: "page = 1\ncpu = [{ id = 0, words = [\"ipi x 256\"] }]",
+        status: 8,
+        text: "mptab: script word cpu 00 index 0 Number\n",
+    },
+    Row {
+        name: "a word of no name",
+        tables: ONE,
+        script: "page = 1\ndevice = [{ words = [] }, { words = [\"low 0 0\", \"jump\"] }]",
+        status: 8,
+        text: "mptab: script word dev 1 index 1 Name\n",
+    },
+    Row {
+        name: "a page that is none, and no boot processor",
+        tables: Tables::Listed(&[Entry::Cpu(0)], ""),
+        script: "page = 0xA0\n",
+        status: 8,
+        text: "mptab: script key page\n",
+    },
+    Row {
+        name: "a word of no device, and two processors with one id",
+        tables: Tables::Listed(&[Entry::Boot(0), Entry::Cpu(1), Entry::Cpu(1)], ""),
+        script: "page = 0x9F
+device = [{ words = [\"take\"] }]
+",
+        status: 8,
+        text: "mptab: script word dev 0 index 0 Name\n",
+    },
+];
+
+#[test]
+fn scripts_that_are_refused(rt: HostRuntime) -> Result<(), Fail> {
+    assert_eq!(rt; first_wrong(rt.alloc(), BOTH, REFUSED)?, None);
+    Ok(())
+}
+
+/// How many words a script has, and to how many bytes it is filled up; the answer.
+const SIZES: &[(usize, usize, u8, &str)] = &[
+    (
+        8192,
+        0,
+        0,
+        "mpboot 1\nentries 8192\n0 cpu 00 eoi : nothing\n",
+    ),
+    (8193, 0, 8, "mptab: script many 8193\n"),
+    (0, 1_048_576, 0, NOTHING),
+    (0, 1_048_577, 10, "mptab: too large boot.toml 1048577\n"),
+];
+
+#[test]
+fn sizes_of_scripts(rt: HostRuntime) -> Result<(), Fail> {
+    for (words, bytes, status, text) in SIZES {
+        let script = script_of(rt.alloc(), "\"eoi\",", *words, *bytes)?;
+        let answer = answer_to(rt.alloc(), "trace", &ONE, script.as_slice())?;
+        assert!(rt; answer.is(*status, text), "{words} words, {bytes} bytes");
+    }
+    Ok(())
+}

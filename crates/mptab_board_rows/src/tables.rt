@@ -1,0 +1,96 @@
+//! Tables as rows say them, and their listings.
+
+use std::alloc::Global;
+use std::test::Fail;
+
+/// The tables of a row.
+pub(crate) enum Tables {
+    /// Those of a listing.
+    Text(&'static str),
+    /// Entries, and lines of further base entries, behind a floating pointer with IMCRP clear.
+    Listed(&'static [Entry], &'static str),
+}
+
+/// Base entries.
+pub(crate) enum Entry {
+    /// An enabled processor of version 10h with the boot bit.
+    Boot(u8),
+    /// An enabled processor of version 10h.
+    Cpu(u8),
+    /// Such processors, from one id to another.
+    Cpus(u8, u8),
+    /// A disabled processor.
+    CpuOff(u8),
+    /// An enabled I/O APIC.
+    Io(u8),
+    /// Such I/O APICs, from one id to another.
+    Ios(u8, u8),
+    /// A disabled I/O APIC.
+    IoOff(u8),
+}
+
+/// The lines of an entry: how each begins, the least and the greatest id, how each ends.
+type Lines = (&'static str, u8, u8, &'static str);
+
+const HEAD: &str = "mptable 1
+pointer at 000F0000 table 000F0010 revision 04 features 0000000000
+header revision 04 oem \"MPTAB   \" product \"BOARD       \" oemtable 00000000 oemsize 0000 local FEE00000 reserved 00
+";
+
+const CPU: &str = "processor id ";
+
+const FIRST: &str =
+    " version 10 flags 03 signature 00000000 features 00000000 reserved 0000000000000000\n";
+
+const OTHER: &str =
+    " version 10 flags 01 signature 00000000 features 00000000 reserved 0000000000000000\n";
+
+const OFF: &str =
+    " version 10 flags 00 signature 00000000 features 00000000 reserved 0000000000000000\n";
+
+const IO: &str = "ioapic id ";
+
+const IO_ON: &str = " version 11 flags 01 address FEC00000\n";
+
+const IO_OFF: &str = " version 11 flags 00 address FEC00000\n";
+
+fn lines_of(entry: &Entry) -> Lines {
+    match entry {
+        Entry::Boot(id) => (CPU, *id, *id, FIRST),
+        Entry::Cpu(id) => (CPU, *id, *id, OTHER),
+        Entry::Cpus(from, to) => (CPU, *from, *to, OTHER),
+        Entry::CpuOff(id) => (CPU, *id, *id, OFF),
+        Entry::Io(id) => (IO, *id, *id, IO_ON),
+        Entry::Ios(from, to) => (IO, *from, *to, IO_ON),
+        Entry::IoOff(id) => (IO, *id, *id, IO_OFF),
+    }
+}
+
+/// Writes the lines of an entry.
+fn push_entry(alloc: Global, text: &mut String, entry: &Entry) -> Result<(), Fail> {
+    let (begin, from, to, end) = lines_of(entry);
+    for id in from..=to {
+        let line = format!(in alloc; "{begin}{id:02X}{end}")?;
+        text.push_str(line.as_str())?;
+    }
+    Ok(())
+}
+
+/// The listing of these tables.
+pub(crate) fn listing_of(alloc: Global, tables: &Tables) -> Result<String, Fail> {
+    match tables {
+        Tables::Text(listing) => Ok(String::from_str(alloc, listing)?),
+        Tables::Listed(entries, lines) => listing_with(alloc, entries, lines),
+    }
+}
+
+/// The listing of these entries and lines.
+fn listing_with(alloc: Global, entries: &[Entry], lines: &str) -> Result<String, Fail> {
+    let mut text = String::from_str(alloc, HEAD)?;
+    for entry in entries {
+        push_entry(alloc, &mut text, entry)?;
+    }
+    text.push_str(lines)?;
+    text.push_str("end\n")?;
+    Ok(text)
+}
