@@ -98,6 +98,9 @@ fn listed(alloc: Global, tables: &Tables) -> Result<MemShelf, Fail> {
 pub(crate) fn shelf_of(alloc: Global, tables: &Tables, script: &[u8]) -> Result<MemShelf, Fail> {
     let mut shelf = listed(alloc, tables)?;
     let built = answer_of(alloc, &["build", "list"], &mut shelf, 0)?;
+    if built.status != 0 {
+        return Err("the tables of a row aren't built".into());
+    }
     let mut shelf = MemShelf::new(alloc);
     shelf.add(IMAGE, built.text.as_slice())?;
     shelf.add(SCRIPT, script)?;
