@@ -148,7 +148,7 @@ fn puts_of_the_sink(rt: HostRuntime) -> Result<(), Fail> {
         let written = whole.get(..*most).unwrap_or(whole);
         assert!(rt;
             answer.status == *status && answer.text.as_slice() == written,
-            "put {put}"
+            "call {call}, put {put}"
         );
     }
     Ok(())
