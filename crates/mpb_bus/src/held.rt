@@ -1,7 +1,9 @@
 //! What lies in the slot of a bus.
 
+ghost use Rattle.std.specs.Prelude.{◌≡◌, IsTrue};
 ghost use Rattle.mpb_spec.specs.May.{MayStep};
 ghost use Rattle.mpb_board.specs.BoardView.{state_of};
+ghost use Rattle.mpb_bus.specs.declared.turn.Turn.TheVariants.{NoMemory};
 ghost use Rattle.mpb_bus.specs.Turns.{Answers};
 
 use crate::turn::Turn;
@@ -15,9 +17,12 @@ pub struct Held {
 }
 
 impl Held {
-    /// One turn of the agent: a step where it may step with the offer.
+    /// One turn of the agent: a step where it may step with the offer. Once a step has wanted memory,
+    /// each turn tells it.
     pub(crate) fn turn(&mut self, agent: Agent, offer: Offer) -> Turn
-        ensures { Answers self.old.board agent offer result self.new.board }
+        ensures answers { Answers self.old.board agent offer result self.new.board }
+        ensures mark { result ≡ NoMemory → IsTrue self.new.out_of_memory }
+        ensures after { IsTrue self.old.out_of_memory → result ≡ NoMemory }
     {
         if self.out_of_memory {
             return Turn::NoMemory;
@@ -35,7 +40,8 @@ impl Held {
     /// A step of the agent, or the mark that it wanted memory.
     fn step(&mut self, agent: Agent, offer: Offer) -> Turn
         requires { MayStep (state_of self.old.board) agent offer }
-        ensures { Answers self.old.board agent offer result self.new.board }
+        ensures answers { Answers self.old.board agent offer result self.new.board }
+        ensures mark { result ≡ NoMemory → IsTrue self.new.out_of_memory }
     {
         match self.board.step(agent, offer) {
             Ok(entry) => Turn::Done(entry),

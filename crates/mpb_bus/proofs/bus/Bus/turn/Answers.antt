@@ -15,7 +15,7 @@ returns-clause-prefix g c =
     let b' = c.turn-answer.new.self.board in
     let now : agent_of c.give.new.seat.me.0 ≡ given b'.journal (taken b.journal a) = ap (λ (m : Sat). agent_of m.0) (c.give.ensures.gave ∙ ap (λ (m : Sat). (resting (given b'.journal (agent_of m.0)), [])) c.take-held.ensures.took) in
     subst (λ (x : AgentView). IsPrefix c.args.seat.now.seen x.seen) (sym now)
-    (subst (λ l. IsPrefix l b'.journal) (ap (λ s. s.seen) c.seat.view_is) (sees_on b b' c.seat.inside.agent c.args.offer a c.seat.invariant.1 c.take-held.ensures.fits c.turn-answer.result c.turn-answer.ensures))
+    (subst (λ l. IsPrefix l b'.journal) (ap (λ s. s.seen) c.seat.view_is) (sees_on b b' c.seat.inside.agent c.args.offer a c.seat.invariant.1 c.take-held.ensures.fits c.turn-answer.result c.turn-answer.ensures.answers))
 
 pub returns-clause-mine : goal.returns-clause-mine
 returns-clause-mine g c =
@@ -23,7 +23,7 @@ returns-clause-mine g c =
     let b = c.take-held.result.board in
     let b' = c.turn-answer.new.self.board in
     let now : agent_of c.give.new.seat.me.0 ≡ given b'.journal (taken b.journal a) = ap (λ (m : Sat). agent_of m.0) (c.give.ensures.gave ∙ ap (λ (m : Sat). (resting (given b'.journal (agent_of m.0)), [])) c.take-held.ensures.took) in
-    subst (λ (x : AgentView). x.mine ≡ entries_of x.agent x.seen) (sym now) (knows_own b b' c.seat.inside.agent c.args.offer a c.seat.invariant.1 c.take-held.ensures.fits c.turn-answer.result c.turn-answer.ensures)
+    subst (λ (x : AgentView). x.mine ≡ entries_of x.agent x.seen) (sym now) (knows_own b b' c.seat.inside.agent c.args.offer a c.seat.invariant.1 c.take-held.ensures.fits c.turn-answer.result c.turn-answer.ensures.answers)
 
 pub returns-clause-olds : goal.returns-clause-olds
 returns-clause-olds g c =
@@ -31,7 +31,7 @@ returns-clause-olds g c =
     let b = c.take-held.result.board in
     let b' = c.turn-answer.new.self.board in
     let now : agent_of c.give.new.seat.me.0 ≡ given b'.journal (taken b.journal a) = ap (λ (m : Sat). agent_of m.0) (c.give.ensures.gave ∙ ap (λ (m : Sat). (resting (given b'.journal (agent_of m.0)), [])) c.take-held.ensures.took) in
-    subst (λ (x : AgentView). All (λ xs. IsPrefix xs x.seen) x.olds) (sym now) (keeps_olds b b' c.seat.inside.agent c.args.offer a c.seat.invariant.1 c.take-held.ensures.fits c.turn-answer.result c.turn-answer.ensures)
+    subst (λ (x : AgentView). All (λ xs. IsPrefix xs x.seen) x.olds) (sym now) (keeps_olds b b' c.seat.inside.agent c.args.offer a c.seat.invariant.1 c.take-held.ensures.fits c.turn-answer.result c.turn-answer.ensures.answers)
 
 pub returns-clause-idle : goal.returns-clause-idle
 returns-clause-idle g c e =
@@ -40,4 +40,4 @@ returns-clause-idle g c e =
     let b' = c.turn-answer.new.self.board in
     let now : agent_of c.give.new.seat.me.0 ≡ given b'.journal (taken b.journal a) = ap (λ (m : Sat). agent_of m.0) (c.give.ensures.gave ∙ ap (λ (m : Sat). (resting (given b'.journal (agent_of m.0)), [])) c.take-held.ensures.took) in
     subst (λ (x : AgentView). (¬ MayStep (final_state_of x.config x.seen) x.agent c.args.offer) × ((h : Agent) × MayAny (final_state_of x.config x.seen) h)) (sym now)
-    (is_idle b b' c.seat.inside.agent c.args.offer a c.seat.invariant.1 c.take-held.ensures.fits c.turn-answer.result c.turn-answer.ensures e)
+    (is_idle b b' c.seat.inside.agent c.args.offer a c.seat.invariant.1 c.take-held.ensures.fits c.turn-answer.result c.turn-answer.ensures.answers e)
