@@ -8,6 +8,7 @@ use Rattle.std.proofs.lemmas.Bool.Decides.{nat_tests}
 use Rattle.std.proofs.lemmas.List.Sums.{sum_by-cons}
 use Rattle.atomic_table.specs.Table.{State}
 use Rattle.atomic_table.proofs.Lists.{set_else}
+use Rattle.mpb_spec.specs.declared.entry.Entry.{Entry}
 use Rattle.mpb_spec.specs.Plan.{Plan}
 use Rattle.mpb_bus.specs.declared.held.Held.{Held}
 use Rattle.mpb_bus.specs.declared.view.AgentView.{AgentView}
@@ -22,7 +23,7 @@ pub record Settled (c : Plan) (s : State Slot SeatView) (agents : List AgentView
   pub held : Held
   pub home : get_elem? s.homes 0 ≡ some (some (Some held))
   pub plan : held.board.plan ≡ c
-  pub fits : All (AgentFits c held.board.journal) agents
+  pub fits : All (AgentFits c held.board.journal held.out_of_memory) agents
   pub latest : Any (λ a. a.seen ≡ held.board.journal) agents
 
 none_else : (f : AgentView → ℕ) (views : List SeatView) → over_agents (λ _. 1) views ≡ 0 → over_agents f views ≡ 0
@@ -58,7 +59,7 @@ module _ (c : Plan) (s : State Slot SeatView) (ok : IsKept c s) (id : ℕ) (v : 
       let z = none_else f (set s.views id nobody) others in
       omega arith
 
-  not_odd : ¬ IsOdd ok.journal s
+  not_odd : ¬ IsOdd ok.journal ok.mark s
   not_odd o = dite (ℕ_discrete o.holder id)
       (λ same. true≢false (ap (λ (u : SeatView). u.holds) (some-injective (holding o.agent) v (sym o.held_by ∙ ap (λ j. get_elem? s.views j) same ∙ at)) ∙ free))
       (λ ne.
@@ -69,20 +70,20 @@ module _ (c : Plan) (s : State Slot SeatView) (ok : IsKept c s) (id : ℕ) (v : 
   latest : Any (λ a. a.seen ≡ ok.journal) v.agents
   latest =
       let any = any_above (λ (a : AgentView). one_if (eqb (length a.seen) (length ok.journal))) v.agents (subst (λ k. 0 < k) (only (λ a. one_if (eqb (length a.seen) (length ok.journal)))) ok.latest) in
-      let fits = subst (AgentFits c ok.journal) any.3 ((ok.fits id v at).0 any.0 any.1 any.2) in
+      let fits = subst (AgentFits c ok.journal ok.mark) any.3 ((ok.fits id v at).0 any.0 any.1 any.2) in
       let long = as_long (length any.1.seen) (length ok.journal) any.4 in
       (any.0, any.1, any.2, any.3, prefix_whole any.1.seen ok.journal fits.seen (omega arith))
 
   pub settles : Settled c s v.agents
   settles = ⊎_elim
-      (λ (e : IsEven c ok.journal s). record {
+      (λ (e : IsEven c ok.journal ok.mark s). record {
         held = e.held;
         home = e.home;
         plan = e.plan_is;
-        fits = subst (λ l. All (AgentFits c l) v.agents) (sym e.journal_is) (ok.fits id v at).0;
+        fits = subst (λ (x : List Entry × Bool). All (AgentFits c x.0 x.1) v.agents) (λ i. (sym e.journal_is i, sym e.mark_is i)) (ok.fits id v at).0;
         latest = subst (λ l. Any (λ a. a.seen ≡ l) v.agents) (sym e.journal_is) latest;
       })
-      (λ (o : IsOdd ok.journal s). absurd (not_odd o))
+      (λ (o : IsOdd ok.journal ok.mark s). absurd (not_odd o))
       ok.phase
 
 -- what lies in a slot is one thing

@@ -1,5 +1,5 @@
 -- The beginning: each agent of a board is there once, and none has taken the turn.
-use Rattle.std.proofs.Common.{◌≡◌, ℕ, zero, suc, ◌+◌, ◌*◌, ◌<◌, ◌≤◌, Bool, true, false, eqb, eq-eqb, List, [], ◌∷◌, ◌++◌, length, get_or, map, drop, sum_by, All, Some, refl, sym, ap, ◌∙◌, subst, arith, inl}
+use Rattle.std.proofs.Common.{◌≡◌, ℕ, zero, suc, ◌+◌, ◌*◌, ◌<◌, ◌≤◌, Bool, true, false, true≢false, eqb, eq-eqb, List, [], ◌∷◌, ◌++◌, length, get_or, map, drop, sum_by, All, Some, refl, sym, ap, ◌∙◌, subst, arith, inl}
 use mathlib.Core.Option.{some, some-injective, some-ne-none}
 use lib.ListN.{get_elem?}
 use Rattle.std.specs.List.{AllByRecursion, range_with_len}
@@ -109,12 +109,13 @@ module _ (c : Plan) where
   pub opens : (held : Held) → held.board.plan ≡ c → IsConfig c → IsKept c (opening ((2 * length held.board.journal) ∷ []) (Some held ∷ []) (opening_view c held.board.journal))
   opens held plan is = record {
     journal = journal;
+    mark = held.out_of_memory;
     wide = refl;
     slots = refl;
-    phase = inl record { word = refl; held = held; home = refl; plan_is = plan; journal_is = refl; free = λ j u h. one_view j u h (λ (x : SeatView). x.holds ≡ false) refl };
+    phase = inl record { word = refl; held = held; home = refl; plan_is = plan; journal_is = refl; mark_is = refl; free = λ j u h. one_view j u h (λ (x : SeatView). x.holds ≡ false) refl };
     agents = λ f. (let s = sum_map (λ (a : AgentView). f a.agent) fresh (agents_of c) in omega arith);
     once = agents_once is.ascending;
-    fits = λ j u h. one_view j u h (ViewFits c journal) (All-map (AgentFits c journal) fresh (agents_of c) (λ k d l. fresh_fits (get_or (agents_of c) k d)), All-nil (λ xs. IsPrefix xs journal));
+    fits = λ j u h. one_view j u h (ViewFits c journal held.out_of_memory) (All-map (AgentFits c journal held.out_of_memory) fresh (agents_of c) (λ k d l. fresh_fits (get_or (agents_of c) k d)), All-nil (λ xs. IsPrefix xs journal), λ f. absurd (true≢false (sym f)));
     latest = latest;
   }
     where
@@ -128,8 +129,8 @@ module _ (c : Plan) where
       one_view zero u h P p = subst P (some-injective (opening_view c held.board.journal) u h) p
       one_view (suc j) u h P p = absurd (some-ne-none u (sym h))
 
-      fresh_fits : (g : Agent) → AgentFits c held.board.journal (fresh_agent c held.board.journal g)
-      fresh_fits g = record { config = refl; seen = prefix_refl held.board.journal; mine = refl; olds = All-nil (λ xs. IsPrefix xs held.board.journal) }
+      fresh_fits : (g : Agent) → AgentFits c held.board.journal held.out_of_memory (fresh_agent c held.board.journal g)
+      fresh_fits g = record { config = refl; seen = prefix_refl held.board.journal; mine = refl; olds = All-nil (λ xs. IsPrefix xs held.board.journal); wanted = λ f. absurd (true≢false (sym f)) }
 
       latest : 0 < over_agents (λ a. one_if (eqb (length a.seen) (length held.board.journal))) (opening_view c held.board.journal ∷ [])
       latest =

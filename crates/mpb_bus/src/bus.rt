@@ -1,11 +1,11 @@
 //! The shared bus (docs/THREADS.md).
 
-ghost use Rattle.std.specs.Prelude.{◌≡◌, ◌+◌, ◌++◌, ◌∷◌, ◌⊎◌, [], map, All, Any, IfOk};
+ghost use Rattle.std.specs.Prelude.{◌≡◌, ◌+◌, ◌++◌, ◌∷◌, ◌⊎◌, [], true, map, All, Any, IfOk};
 ghost use Rattle.mpb_spec.specs.declared.agent.Agent.{Agent as AnAgent};
 ghost use Rattle.mpb_spec.specs.declared.entry.Entry.{Entry as AnEntry};
 ghost use Rattle.mpb_spec.specs.Journal.{IsComplete, IsLegal};
 ghost use Rattle.mpb_spec.specs.May.{IsQuiescent, MayAny, MayStep};
-ghost use Rattle.mpb_bus.specs.declared.turn.Turn.TheVariants.{Done, Idle, Quiet};
+ghost use Rattle.mpb_bus.specs.declared.turn.Turn.TheVariants.{Done, Idle, NoMemory as Wanted, Quiet};
 ghost use Rattle.mpb_bus.specs.Agents.{IsPrefix, agents_of, entries_of};
 ghost use Rattle.mpb_bus.specs.Seats.{AreSeatsOf, fresh_seat, state_seen};
 ghost use Rattle.mpb_bus.specs.Turns.{Stepped, entries_in};
@@ -61,7 +61,7 @@ impl Bus {
     /// It may wait.
     pub fn turn<R: Wait>(&self, rt: &R, seat: &mut BusSeat, offer: Offer) -> Turn
         requires seat { seat.old.bus ≡ self.now.bus }
-        ensures seat { seat.new ≡ record seat.old { seen = seat.new.seen; mine = seat.new.mine; turns = seat.old.turns + 1 } }
+        ensures seat { seat.new ≡ record seat.old { seen = seat.new.seen; mine = seat.new.mine; turns = seat.old.turns + 1; wanted = seat.new.wanted } }
         ensures prefix { IsPrefix seat.old.seen seat.new.seen }
         ensures legal { IsLegal seat.new.plan seat.new.seen }
         ensures grows { seat.new.mine ≡ seat.old.mine ++ entries_in result }
@@ -70,6 +70,8 @@ impl Bus {
         ensures done { (x : AnEntry) → result ≡ Done x → Stepped seat.old offer x seat.new }
         ensures idle { result ≡ Idle → (¬ MayStep (state_seen seat.new) seat.new.agent offer) × ((g : AnAgent) × MayAny (state_seen seat.new) g) }
         ensures quiet { result ≡ Quiet → IsQuiescent (state_seen seat.new) }
+        ensures wanted { result ≡ Wanted → seat.new.wanted ≡ true }
+        ensures after { seat.old.wanted ≡ true → result ≡ Wanted }
     {
         let mut held = take(&self.words, rt, &mut seat.seat);
         let answer = held.turn(seat.agent, offer);
@@ -83,11 +85,12 @@ impl Bus {
         requires one { one.old.bus ≡ self.now.bus }
         requires two { two.old.bus ≡ self.now.bus }
         ensures one { one.new ≡ one.old }
-        ensures two { two.new ≡ record two.old { seen = two.new.seen; turns = two.old.turns + 1; olds = one.old.seen ∷ two.old.seen ∷ [] } }
+        ensures two { two.new ≡ record two.old { seen = two.new.seen; turns = two.old.turns + 1; olds = one.old.seen ∷ two.old.seen ∷ []; wanted = two.new.wanted } }
         ensures both { IsPrefix one.old.seen two.new.seen × IsPrefix two.old.seen two.new.seen }
         ensures order { IsPrefix one.old.seen two.old.seen ⊎ IsPrefix two.old.seen one.old.seen }
         ensures legal { IsLegal two.new.plan two.new.seen }
         ensures mine { two.new.mine ≡ entries_of two.new.agent two.new.seen }
+        ensures wanted { (one.old.wanted ≡ true → two.new.wanted ≡ true) × (two.old.wanted ≡ true → two.new.wanted ≡ true) }
     {
         let told = self.words.shared.split_seat::<Told>(&mut one.seat);
         self.words.shared.join_seat::<Heard>(&mut two.seat, told);

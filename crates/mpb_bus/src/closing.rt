@@ -1,6 +1,6 @@
 //! A shared bus is closed: one seat takes all others in, and what it then knows is the history.
 
-ghost use Rattle.std.specs.Prelude.{◌≡◌, ◌++◌, [], false, length, map, All, Any};
+ghost use Rattle.std.specs.Prelude.{◌≡◌, ◌++◌, [], Bool, false, length, map, All, Any};
 ghost use Rattle.mpb_spec.specs.Journal.{IsLegal};
 ghost use Rattle.mpb_bus.specs.Agents.{agents_of};
 ghost use Rattle.mpb_bus.specs.Rule.{AgentFits, known_agent, nobody, resting, together};
@@ -51,7 +51,7 @@ pub(crate) fn settle(words: Words, all: Seat<Option<Held>, SeatView>) -> Board
     requires words { (all.table_id ≡ words.shared.table_id) × (words.shared.table_id.slots ≡ 1) }
     requires all { (all.me.0.holds ≡ false) × (length all.me.0.agents ≡ length (agents_of words.shared.key.value.plan)) }
     ensures plan { result.plan ≡ words.shared.key.value.plan }
-    ensures fits { All (AgentFits result.plan result.journal) all.me.0.agents }
+    ensures fits { (mark : Bool) × All (AgentFits result.plan result.journal mark) all.me.0.agents }
     ensures latest { Any (λ a. a.seen ≡ result.journal) all.me.0.agents }
     ensures legal { IsLegal result.plan result.journal }
 {

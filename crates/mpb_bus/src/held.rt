@@ -1,6 +1,6 @@
 //! What lies in the slot of a bus.
 
-ghost use Rattle.std.specs.Prelude.{◌≡◌, IsTrue};
+ghost use Rattle.std.specs.Prelude.{◌≡◌, true};
 ghost use Rattle.mpb_spec.specs.May.{MayStep};
 ghost use Rattle.mpb_board.specs.BoardView.{state_of};
 ghost use Rattle.mpb_bus.specs.declared.turn.Turn.TheVariants.{NoMemory};
@@ -21,8 +21,8 @@ impl Held {
     /// each turn tells it.
     pub(crate) fn turn(&mut self, agent: Agent, offer: Offer) -> Turn
         ensures answers { Answers self.old.board agent offer result self.new.board }
-        ensures mark { result ≡ NoMemory → IsTrue self.new.out_of_memory }
-        ensures after { IsTrue self.old.out_of_memory → result ≡ NoMemory }
+        ensures mark { result ≡ NoMemory → self.new.out_of_memory ≡ true }
+        ensures after { self.old.out_of_memory ≡ true → result ≡ NoMemory }
     {
         if self.out_of_memory {
             return Turn::NoMemory;
@@ -41,7 +41,7 @@ impl Held {
     fn step(&mut self, agent: Agent, offer: Offer) -> Turn
         requires { MayStep (state_of self.old.board) agent offer }
         ensures answers { Answers self.old.board agent offer result self.new.board }
-        ensures mark { result ≡ NoMemory → IsTrue self.new.out_of_memory }
+        ensures mark { result ≡ NoMemory → self.new.out_of_memory ≡ true }
     {
         match self.board.step(agent, offer) {
             Ok(entry) => Turn::Done(entry),

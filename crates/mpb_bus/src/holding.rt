@@ -1,7 +1,7 @@
 //! The turn is taken and given back. While a seat has it, the word is odd, and only that seat has the
 //! board.
 
-ghost use Rattle.std.specs.Prelude.{◌≡◌, ◌∷◌, [], None};
+ghost use Rattle.std.specs.Prelude.{◌≡◌, ◌∷◌, [], None, true};
 ghost use Rattle.mpb_spec.specs.Journal.{IsLegal};
 ghost use Rattle.mpb_bus.specs.Rule.{AgentFits, GrowsBy, Took, agent_of, given, holding, resting, taken};
 
@@ -42,8 +42,8 @@ pub(crate) fn take<R: Wait>(words: &Words, rt: &R, seat: &mut Seat<Option<Held>,
     requires words { (words.now.shared.table_id.words ≡ 1) × (seat.old.table_id ≡ words.now.shared.table_id) }
     requires free { seat.old.me ≡ (resting (agent_of seat.old.me.0), []) }
     ensures seat { seat.new.table_id ≡ seat.old.table_id }
-    ensures took { seat.new.me ≡ (holding (taken result.board.journal (agent_of seat.old.me.0)), (0, None) ∷ []) }
-    ensures fits { AgentFits result.board.plan result.board.journal (agent_of seat.old.me.0) }
+    ensures took { seat.new.me ≡ (holding (taken result.board.journal result.out_of_memory (agent_of seat.old.me.0)), (0, None) ∷ []) }
+    ensures fits { AgentFits result.board.plan result.board.journal result.out_of_memory (agent_of seat.old.me.0) }
 {
     win(words, rt, seat);
     let Some(held) = words.shared.exchange(seat, 0, None) else {
@@ -57,8 +57,9 @@ pub(crate) fn give(words: &Words, seat: &mut Seat<Option<Held>, SeatView>, held:
     requires words { (words.now.shared.table_id.words ≡ 1) × (seat.old.table_id ≡ words.now.shared.table_id) }
     requires holds { seat.old.me ≡ (holding (agent_of seat.old.me.0), (0, None) ∷ []) }
     requires board { (held.board.plan ≡ (agent_of seat.old.me.0).config) × GrowsBy (agent_of seat.old.me.0) held.board.journal }
+    requires mark { (agent_of seat.old.me.0).wanted ≡ true → held.out_of_memory ≡ true }
     ensures seat { seat.new.table_id ≡ seat.old.table_id }
-    ensures gave { seat.new.me ≡ (resting (given held.board.journal (agent_of seat.old.me.0)), []) }
+    ensures gave { seat.new.me ≡ (resting (given held.board.journal held.out_of_memory (agent_of seat.old.me.0)), []) }
     ensures legal { IsLegal held.board.plan held.board.journal }
 {
     let word = 2 * held.board.journal().len() as u64;

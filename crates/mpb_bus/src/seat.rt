@@ -9,7 +9,8 @@ use std::marker::Model;
 
 /// An agent's seat. Contracts see which bus it belongs to, the agent, the board's plan, the journal as
 /// the seat last saw it (`seen`), the agent's own entries (`mine`), how often it took the turn (`turns`),
-/// and what the two seats of its last meeting had seen before it (`olds`).
+/// what the two seats of its last meeting had seen before it (`olds`), and whether it knows that a step
+/// has wanted memory (`wanted`).
 #[derive(Drop)]
 pub struct BusSeat {
     pub(crate) seat: Seat<Option<Held>, SeatView>,

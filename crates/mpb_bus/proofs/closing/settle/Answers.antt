@@ -29,7 +29,7 @@ returns-clause-fits c =
     let end = settles plan final.0 final.1.0 c.args.all.id c.args.all.me.0 final.1.1 c.requires.all.0 c.requires.all.1 in
     let found = some-injective (Some end.held) c.take-slot.result (sym (final.4 0 (Some end.held) end.home) ∙ c.take-slot.ensures.value) in
     let same = held_same end.held c.in-Some.field-0 (found ∙ c.in-Some.is) in
-    subst (λ (h : Held). All (AgentFits h.board.plan h.board.journal) c.args.all.me.0.agents) same (subst (λ p. All (AgentFits p end.held.board.journal) c.args.all.me.0.agents) (sym end.plan) end.fits)
+    (c.in-Some.field-0.out_of_memory, subst (λ (h : Held). All (AgentFits h.board.plan h.board.journal h.out_of_memory) c.args.all.me.0.agents) same (subst (λ p. All (AgentFits p end.held.board.journal end.held.out_of_memory) c.args.all.me.0.agents) (sym end.plan) end.fits))
 
 pub returns-clause-latest : goal.returns-clause-latest
 returns-clause-latest c =

@@ -17,5 +17,5 @@ store-requires c =
       e.0 ∙ c.requires.words.1,
       (let w = c.requires.words.0 in omega arith),
       subst (λ m. Allows (IsKept plan) slots c.exchange.new.seat.id m 0 (λ _. new) (λ _. Gives (step slots 0 new 0 none) m new)) (sym me_is)
-          (gives_allowed plan slots c.exchange.new.seat.id a held new c.requires.board.0 c.requires.board.1 (ap (λ l. 2 * length l) c.journal.ensures.journal)),
+          (gives_allowed plan slots c.exchange.new.seat.id a held new c.requires.board.0 c.requires.board.1 c.requires.mark (ap (λ l. 2 * length l) c.journal.ensures.journal)),
     )
