@@ -147,9 +147,14 @@ fn read_part<R: Files>(
     at: u64,
     buf: &mut [u8],
 ) -> io::Result<()> {
-    let Some(file) = open_once(rt, alloc, opened, name)? else {
-        return Err(ErrorKind::NotFound.into());
-    };
+    match open_once(rt, alloc, opened, name)? {
+        Some(file) => fill_from(file, at, buf),
+        None => Err(ErrorKind::NotFound.into()),
+    }
+}
+
+// Fills the buffer with the bytes of a file from that place on.
+fn fill_from<F: Read + Seek>(file: &mut F, at: u64, buf: &mut [u8]) -> io::Result<()> {
     if at > file.seek(SeekFrom::End(0))? {
         return Err(ErrorKind::UnexpectedEof.into());
     }

@@ -1,9 +1,9 @@
 //! The lines of base entries, each read from the left.
 
-ghost use Rattle.std.specs.Prelude.{◌≡◌, IfSome, IfNone};
+ghost use Rattle.std.specs.Prelude.{◌≡◌, IfSome, IfNone, codes};
 ghost use Rattle.mpt_spec.specs.Values.{IsBaseValue};
 ghost use Rattle.mpt_listing.specs.Listing.{base_line};
-ghost use Rattle.mpt_line.specs.Reading.{Gives};
+ghost use Rattle.mpt_line.specs.Reading.{Gives, field_in, bytes_field_in, both, ended};
 ghost use Rattle.mpt_line.specs.Forms.{processor_in, bus_in, io_apic_in, interrupt_in, base_in};
 ghost use Rattle.mpt_line.specs.Lines.{BeginsWith, BeginsWithNone};
 
@@ -48,11 +48,7 @@ fn read_processor(line: &[u8]) -> Option<(Processor, &[u8])>
     let (apic, rest) = read_u8_field(line, b"processor id ")?;
     let (version, rest) = read_u8_field(rest, b" version ")?;
     let (flags, rest) = read_u8_field(rest, b" flags ")?;
-    let (signature, rest) = read_u32_field(rest, b" signature ")?;
-    let (features, rest) = read_u32_field(rest, b" features ")?;
-    let mut reserved = [0; 8];
-    let rest = read_bytes_field(&mut reserved, rest, b" reserved ")?;
-    let rest = read_end(rest)?;
+    let ((signature, features, reserved), rest) = read_cpuid(rest)?;
     Some((
         Processor {
             apic,
@@ -64,6 +60,20 @@ fn read_processor(line: &[u8]) -> Option<(Processor, &[u8])>
         },
         rest,
     ))
+}
+
+// What ends a processor's line: the CPU signature, the feature flags and the reserved bytes.
+fn read_cpuid(line: &[u8]) -> Option<((u32, u32, [u8; 8]), &[u8])>
+    ensures { Gives (λ x. ((x.0.0, (x.0.1, x.0.2)), x.1.now)) result
+        (both (field_in (codes " signature ") 8) (both (field_in (codes " features ") 8)
+        (ended (bytes_field_in (codes " reserved ") 8))) line.now) }
+{
+    let (signature, rest) = read_u32_field(line, b" signature ")?;
+    let (features, rest) = read_u32_field(rest, b" features ")?;
+    let mut reserved = [0; 8];
+    let rest = read_bytes_field(&mut reserved, rest, b" reserved ")?;
+    let rest = read_end(rest)?;
+    Some(((signature, features, reserved), rest))
 }
 
 #[tactic(auto, unfolding(crate::specs::Forms::bus_in))]

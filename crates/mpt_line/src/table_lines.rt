@@ -1,7 +1,7 @@
 //! The lines of the floating pointer and of the table's header, each read from the left.
 
-ghost use Rattle.std.specs.Prelude.{◌≡◌, IfSome, IfNone};
-ghost use Rattle.mpt_line.specs.Reading.{Gives};
+ghost use Rattle.std.specs.Prelude.{◌≡◌, IfSome, IfNone, codes};
+ghost use Rattle.mpt_line.specs.Reading.{Gives, field_in, both, ended};
 ghost use Rattle.mpt_line.specs.Forms.{pointer_in, header_in, is_right_pointer};
 ghost use Rattle.mpt_line.specs.Lines.{IsRightPointer, pointer_text, IsRightHeader, header_text, BeginsWith, BeginsWithNone};
 
@@ -71,11 +71,7 @@ fn read_header(line: &[u8]) -> Option<(HeaderLine, &[u8])>
     let rest = read_quoted_field(&mut oem, rest, b" oem ")?;
     let mut product = [0; 12];
     let rest = read_quoted_field(&mut product, rest, b" product ")?;
-    let (oem_table, rest) = read_u32_field(rest, b" oemtable ")?;
-    let (oem_size, rest) = read_u16_field(rest, b" oemsize ")?;
-    let (local_address, rest) = read_u32_field(rest, b" local ")?;
-    let (reserved, rest) = read_u8_field(rest, b" reserved ")?;
-    let rest = read_end(rest)?;
+    let ((oem_table, oem_size, local_address, reserved), rest) = read_numbers(rest)?;
     if revision != 4 {
         return None;
     }
@@ -91,4 +87,19 @@ fn read_header(line: &[u8]) -> Option<(HeaderLine, &[u8])>
         },
         rest,
     ))
+}
+
+// The numbers that end the header's line: the address and the size of the OEM table, the address of the
+// local APICs and the reserved byte.
+fn read_numbers(line: &[u8]) -> Option<((u32, u16, u32, u8), &[u8])>
+    ensures { Gives (λ x. ((x.0.0, (x.0.1, (x.0.2, x.0.3))), x.1.now)) result
+        (both (field_in (codes " oemtable ") 8) (both (field_in (codes " oemsize ") 4)
+        (both (field_in (codes " local ") 8) (ended (field_in (codes " reserved ") 2)))) line.now) }
+{
+    let (oem_table, rest) = read_u32_field(line, b" oemtable ")?;
+    let (oem_size, rest) = read_u16_field(rest, b" oemsize ")?;
+    let (local_address, rest) = read_u32_field(rest, b" local ")?;
+    let (reserved, rest) = read_u8_field(rest, b" reserved ")?;
+    let rest = read_end(rest)?;
+    Some(((oem_table, oem_size, local_address, reserved), rest))
 }

@@ -6,7 +6,7 @@ ghost use Rattle.mpt_spec.specs.Interrupts.{kind_of, polarity_of, trigger_of};
 use crate::entry::IntEntry;
 
 /// The interrupt type of an entry.
-#[derive(Clone, Copy, Debug, PartialEq, Eq)]
+#[derive(Clone, Copy)]
 pub enum Kind {
     /// A vectored interrupt.
     Int,
@@ -19,7 +19,7 @@ pub enum Kind {
 }
 
 /// The polarity of an interrupt input.
-#[derive(Clone, Copy, Debug, PartialEq, Eq)]
+#[derive(Clone, Copy)]
 pub enum Polarity {
     /// As the source bus has it.
     Conforms,
@@ -32,7 +32,7 @@ pub enum Polarity {
 }
 
 /// The trigger mode of an interrupt input.
-#[derive(Clone, Copy, Debug, PartialEq, Eq)]
+#[derive(Clone, Copy)]
 pub enum Trigger {
     /// As the source bus has it.
     Conforms,

@@ -29,6 +29,18 @@ fn push_bases(out: &mut Vec<u8>, entries: &[Base]) -> Result<(), NoMemory>
     Ok(())
 }
 
+// the bytes of extended entries, end to end, behind what is there
+fn push_exts(out: &mut Vec<u8>, entries: &[Ext]) -> Result<(), NoMemory>
+    requires lawful { AllByRecursion IsLawfulExt entries.now }
+    ensures bytes { OnOk result (out.new.items ≡ out.old.items ++ flat_map ext_bytes entries.now) }
+    ensures size { OnOk result (length out.new.items ≡ length out.old.items + sum_by ext_length entries.now) }
+{
+    for entry in entries {
+        write_ext(out, entry)?;
+    }
+    Ok(())
+}
+
 // the bytes of extended entries, end to end
 fn ext_part(alloc: Global, entries: &[Ext]) -> Result<Vec<u8>, NoMemory>
     requires lawful { AllByRecursion IsLawfulExt entries.now }
@@ -36,9 +48,7 @@ fn ext_part(alloc: Global, entries: &[Ext]) -> Result<Vec<u8>, NoMemory>
     ensures size { IfOk result (λ part. length part.items ≡ sum_by ext_length entries.now) }
 {
     let mut out = Vec::new(alloc);
-    for entry in entries {
-        write_ext(&mut out, entry)?;
-    }
+    push_exts(&mut out, entries)?;
     Ok(out)
 }
 

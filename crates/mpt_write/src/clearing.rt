@@ -1,7 +1,7 @@
 //! Entries and floating pointers without their reserved bits (MultiProcessor Specification 1.4,
 //! sections 4.1, 4.3 and 4.4). What is reserved is set to zero.
 
-ghost use Rattle.std.specs.Prelude.{◌≡◌};
+ghost use Rattle.std.specs.Prelude.{◌≡◌, ◌%◌, replicate};
 ghost use Rattle.mpt_spec.specs.Canonical.{canonical_pointer, canonical_base, canonical_ext};
 
 use mpt_spec::{Base, Ext, Hierarchy, IntEntry, IoApic, Modifier, Pointer, Processor};
@@ -28,24 +28,42 @@ pub(crate) fn canonical_base(entry: Base) -> Base
     ensures { result ≡ canonical_base entry }
 {
     match entry {
-        Base::Processor(e) => Base::Processor(Processor {
-            flags: e.flags % 4,
-            reserved: [0; 8],
-            ..e
-        }),
+        Base::Processor(e) => Base::Processor(cleared_processor(e)),
         Base::Bus(e) => Base::Bus(e),
-        Base::IoApic(e) => Base::IoApic(IoApic {
-            flags: e.flags % 2,
-            ..e
-        }),
-        Base::IoInt(e) => Base::IoInt(IntEntry {
-            flags: e.flags % 16,
-            ..e
-        }),
-        Base::LocalInt(e) => Base::LocalInt(IntEntry {
-            flags: e.flags % 16,
-            ..e
-        }),
+        Base::IoApic(e) => Base::IoApic(cleared_io_apic(e)),
+        Base::IoInt(e) => Base::IoInt(cleared_interrupt(e)),
+        Base::LocalInt(e) => Base::LocalInt(cleared_interrupt(e)),
+    }
+}
+
+// EN and BP stay.
+fn cleared_processor(entry: Processor) -> Processor
+    ensures { result ≡ record entry { flags = entry.flags % 4; reserved = replicate 8 0 } }
+{
+    Processor {
+        flags: entry.flags % 4,
+        reserved: [0; 8],
+        ..entry
+    }
+}
+
+// EN stays.
+fn cleared_io_apic(entry: IoApic) -> IoApic
+    ensures { result ≡ record entry { flags = entry.flags % 2 } }
+{
+    IoApic {
+        flags: entry.flags % 2,
+        ..entry
+    }
+}
+
+// The polarity and the trigger mode stay.
+fn cleared_interrupt(entry: IntEntry) -> IntEntry
+    ensures { result ≡ record entry { flags = entry.flags % 16 } }
+{
+    IntEntry {
+        flags: entry.flags % 16,
+        ..entry
     }
 }
 

@@ -3,4 +3,4 @@ use Rattle.mpt_line.proofs.base_lines.read_processor.Goals as goal
 
 pub returns : goal.returns
 unfolding processor_in
-returns c = rw (c.in_ok-apic.ensures, c.in_ok-version.ensures, c.in_ok-flags.ensures, c.in_ok-signature.ensures, c.in_ok-features.ensures, c.in_ok-rest.ensures, c.in_ok-rest-2.ensures)
+returns c = rw (c.in_ok-apic.ensures, c.in_ok-version.ensures, c.in_ok-flags.ensures, c.in_ok-signature.ensures)

@@ -3,4 +3,4 @@ use Rattle.mpt_line.proofs.table_lines.read_header.Goals as goal
 
 pub returns : goal.returns
 unfolding header_in
-returns c = rw (c.in_ok-revision.ensures, c.in_ok-rest.ensures, c.in_ok-rest-2.ensures, c.in_ok-oem_table.ensures, c.in_ok-oem_size.ensures, c.in_ok-local_address.ensures, c.in_ok-reserved.ensures, c.in_ok-rest-3.ensures, c.if-revision-ne4.false)
+returns c = rw (c.in_ok-revision.ensures, c.in_ok-rest.ensures, c.in_ok-rest-2.ensures, c.in_ok-oem_table.ensures, c.if-revision-ne4.false)
