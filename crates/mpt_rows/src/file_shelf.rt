@@ -10,7 +10,7 @@ use std::test::Fail;
 // what a shelf answers to a read of a file from a place
 fn same_read(
     rt: &impl Abort,
-    shelf: &mut FileShelf<'_, impl Files>,
+    shelf: &mut FileShelf<'_, HostRuntime>,
     name: &str,
     at: u64,
     buf: &mut [u8],

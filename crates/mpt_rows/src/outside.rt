@@ -11,11 +11,17 @@ use std::io;
 use std::io::ErrorKind;
 use std::process::Abort;
 
+// puts a file on a shelf
+fn add(rt: &impl Abort, shelf: &mut MemShelf, name: &str, bytes: &[u8]) {
+    let added = shelf.add(name, bytes);
+    same(rt, "a file is added", added, Ok(()));
+}
+
 #[test]
 fn shelf_fails_where_it_was_told(rt: HostRuntime) {
     let mut shelf = MemShelf::new(rt.alloc());
-    same(&rt, "adds the old file", shelf.add("a", b"old"), Ok(()));
-    same(&rt, "adds the file", shelf.add("a", b"01234"), Ok(()));
+    add(&rt, &mut shelf, "a", b"old");
+    add(&rt, &mut shelf, "a", b"01234");
     same(&rt, "adds a failing call", shelf.fail(2), Ok(()));
     same_size(&rt, &mut shelf, "a", Ok(Some(5)));
     same_size(&rt, &mut shelf, "a", Err(Failed));
@@ -27,7 +33,7 @@ fn shelf_fails_where_it_was_told(rt: HostRuntime) {
 #[test]
 fn shelf_reads_from_a_place(rt: HostRuntime) {
     let mut shelf = MemShelf::new(rt.alloc());
-    same(&rt, "adds the file", shelf.add("a", b"01234"), Ok(()));
+    add(&rt, &mut shelf, "a", b"01234");
     let Ok(Some(5)) = shelf.size("a") else {
         panic!(rt; "no file of 5 bytes");
     };

@@ -75,7 +75,7 @@ fn opaque_tables(alloc: Global) -> Result<Tables, AllocError> {
     Ok(listed(0xF_0000, 0x000F_0010, base, ext))
 }
 
-// its bytes: the extended length is 2, the extended checksum 36h and the checksum 61h
+// their bytes: the extended length is 2, the extended checksum 36h and the checksum 61h
 fn opaque_block(alloc: Global) -> Result<Vec<u8>, AllocError> {
     let mut block = Vec::from_slice(alloc, &ONE_PROCESSOR)?;
     block.extend_from_slice(b"\xC8\x02")?;
@@ -100,11 +100,18 @@ fn writes_a_table_of_one_processor(rt: HostRuntime) -> Result<(), Fail> {
     Ok(())
 }
 
+// the block that is written of those tables
+fn same_opaque_block(rt: &impl Abort, alloc: Global, want: &[u8]) {
+    let Ok(tables) = opaque_tables(alloc) else {
+        panic!(rt; "out of memory");
+    };
+    same_block(rt, alloc, &tables, want);
+}
+
 #[test]
 fn writes_an_opaque_entry_behind_the_base_table(rt: HostRuntime) -> Result<(), Fail> {
-    let tables = opaque_tables(rt.alloc())?;
     let want = opaque_block(rt.alloc())?;
-    same_block(&rt, rt.alloc(), &tables, want.as_slice());
+    same_opaque_block(&rt, rt.alloc(), want.as_slice());
     Ok(())
 }
 
