@@ -1,11 +1,12 @@
 //! The seven default configurations: their entries, and their routes under three words of the ELCR.
 
-ghost use Rattle.std.specs.Prelude.{◌<◌, ◌^◌, length, IfSome};
-
-use crate::tables::default_tables;
+use crate::harness::same;
+use crate::tables::{default_tables, entry};
 use mpt_route::{Answer, Platform, Route, platform_of, routes};
+use mpt_spec::{Bus, IntEntry, IoApic, Processor};
+use mpt_write::well_formed;
 use std::alloc::Global;
-use std::test::Fail;
+use std::process::Abort;
 
 /// What a default configuration has: its number, the names of bus 0 and, where there is one, bus 1, and
 /// the versions of the local APICs and of the I/O APIC.
@@ -41,10 +42,11 @@ const INTS: [(u8, u8); 15] = [
 ];
 
 // the platform of a default configuration
-fn platform(alloc: Global, number: u8) -> Option<Platform>
-    ensures { IfSome result (λ p. length p.ints < 2 ^ 16) }
-{
-    let tables = default_tables(number, [0x80, 0, 0, 0])?;
+fn platform(alloc: Global, number: u8) -> Option<Platform> {
+    let tables = default_tables(number, 0x80, 0);
+    if !well_formed(&tables) {
+        return None;
+    }
     platform_of(alloc, &tables).ok()
 }
 
@@ -53,68 +55,97 @@ fn is_connected(number: u8, irq: u8) -> bool {
     number != 2 || (irq != 0 && irq != 13)
 }
 
-fn has_processors(p: &Platform, version: u8) -> bool {
-    p.processors
-        .as_slice()
-        .iter()
-        .map(|e| (e.apic, e.version, e.flags, e.signature, e.features))
-        .eq([(0, version, 3, 0, 0), (1, version, 1, 0, 0)])
+/// Of a processor its id, its version and its flags.
+type Fields = (u8, u8, u8);
+
+// the processors: two of this version, of which the first boots
+fn same_processors(rt: &impl Abort, number: u8, processors: &[Processor], version: u8) {
+    let count = processors.len();
+    same(rt, "the processors", (number, count), (number, 2));
+    same_processor(rt, number, processors.first(), (0, version, 3));
+    same_processor(rt, number, processors.get(1), (1, version, 1));
 }
 
-fn has_buses(p: &Platform, first: [u8; 6], second: Option<[u8; 6]>) -> bool {
-    let buses = p.buses.as_slice();
-    match second {
-        None => buses.len() == 1 && buses.iter().all(|b| b.id == 0 && b.name == first),
-        Some(name) => buses
-            .iter()
-            .map(|b| (b.id, b.name))
-            .eq([(0, first), (1, name)]),
+fn same_processor(rt: &impl Abort, number: u8, found: Option<&Processor>, want: Fields) {
+    let Some(e) = found else {
+        panic!(rt; "no such processor");
+    };
+    let got = (e.apic, e.version, e.flags);
+    same(rt, "a processor", (number, got), (number, want));
+    let unknown = (number, (e.signature, e.features));
+    same(rt, "signature and features", unknown, (number, (0, 0)));
+}
+
+// the buses: bus 0 of this name, and bus 1 where a second name is given
+fn same_buses(rt: &impl Abort, number: u8, buses: &[Bus], first: [u8; 6], second: Option<[u8; 6]>) {
+    let count = if second.is_some() { 2 } else { 1 };
+    same(rt, "the buses", (number, buses.len()), (number, count));
+    same_bus(rt, number, buses.first(), Bus { id: 0, name: first });
+    if let Some(name) = second {
+        same_bus(rt, number, buses.get(1), Bus { id: 1, name });
     }
 }
 
-fn has_ios(p: &Platform, version: u8) -> bool {
-    p.ios
-        .as_slice()
-        .iter()
-        .map(|e| (e.id, e.version, e.flags, e.address))
-        .eq([(2, version, 1, 0xFEC0_0000)])
+fn same_bus(rt: &impl Abort, number: u8, found: Option<&Bus>, want: Bus) {
+    let got = found.copied();
+    same(rt, "a bus", (number, got), (number, Some(want)));
 }
 
-fn has_ints(p: &Platform, number: u8) -> bool {
-    let rows = INTS
-        .iter()
-        .filter(|row| is_connected(number, row.0))
-        .map(|row| (0, 0, 0, row.0, 2, row.1));
-    let first = [(3, 0, 0, 0, 2, 0)];
-    p.ints
-        .as_slice()
-        .iter()
-        .map(|e| (e.kind, e.flags, e.bus, e.irq, e.dest, e.pin))
-        .eq(first.into_iter().chain(rows))
+// the only I/O APIC, of this version
+fn same_ios(rt: &impl Abort, number: u8, ios: &[IoApic], version: u8) {
+    let want = [IoApic {
+        id: 2,
+        version,
+        flags: 1,
+        address: 0xFEC0_0000,
+    }];
+    same(rt, "the I/O APIC", (number, ios), (number, want.as_slice()));
 }
 
-fn has_lints(p: &Platform) -> bool {
-    p.lints
-        .as_slice()
-        .iter()
-        .map(|e| (e.kind, e.flags, e.bus, e.irq, e.dest, e.pin))
-        .eq([(3, 0, 0, 0, 255, 0), (1, 0, 0, 0, 255, 1)])
+// the I/O interrupts: an ExtINT row, and an INT row of each IRQ that has one
+fn same_ints(rt: &impl Abort, number: u8, ints: &[IntEntry]) {
+    let count = if number == 2 { 14 } else { 16 };
+    same(rt, "the rows", (number, ints.len()), (number, count));
+    same_int(rt, number, ints.first(), entry(3, 0, 0, 0, 2, 0));
+    let mut at = 1usize;
+    for (irq, pin) in INTS {
+        if is_connected(number, irq) {
+            same_int(rt, number, ints.get(at), entry(0, 0, 0, irq, 2, pin));
+            at = at.saturating_add(1);
+        }
+    }
+}
+
+// the local interrupts: an ExtINT row and an NMI row
+fn same_lints(rt: &impl Abort, number: u8, lints: &[IntEntry]) {
+    same(rt, "the local rows", (number, lints.len()), (number, 2));
+    same_int(rt, number, lints.first(), entry(3, 0, 0, 0, 255, 0));
+    same_int(rt, number, lints.get(1), entry(1, 0, 0, 0, 255, 1));
+}
+
+fn same_int(rt: &impl Abort, number: u8, found: Option<&IntEntry>, want: IntEntry) {
+    let got = found.copied();
+    same(rt, "a row", (number, got), (number, Some(want)));
 }
 
 #[test]
-fn defaults_have_their_entries(rt: HostRuntime) -> Result<(), Fail> {
-    let alloc = rt.alloc();
+fn defaults_have_their_entries(rt: HostRuntime) {
     for (number, first, second, local, io) in ROWS {
-        let p = platform(alloc, number).ok_or("no memory")?;
-        assert!(rt; has_processors(&p, local), "at {number}");
-        assert!(rt; has_buses(&p, first, second), "at {number}");
-        assert!(rt; has_ios(&p, io), "at {number}");
-        assert!(rt; has_ints(&p, number), "at {number}");
-        assert!(rt; has_lints(&p), "at {number}");
-        assert!(rt; p.imcr && p.local_address == 0xFEE0_0000);
-        assert!(rt; p.ints.as_slice().len() == if number == 2 { 14 } else { 16 });
+        let Some(p) = platform(rt.alloc(), number) else {
+            panic!(rt; "no memory");
+        };
+        same_processors(&rt, number, p.processors.as_slice(), local);
+        same_buses(&rt, number, p.buses.as_slice(), first, second);
+        same_ios(&rt, number, p.ios.as_slice(), io);
+        same_ints(&rt, number, p.ints.as_slice());
+        same_lints(&rt, number, p.lints.as_slice());
+        same(
+            &rt,
+            "a default, its IMCR and its local APICs",
+            (number, p.imcr, p.local_address),
+            (number, true, 0xFEE0_0000),
+        );
     }
-    Ok(())
 }
 
 // the IRQs that a bus makes level and low under a word of the ELCR
@@ -152,24 +183,33 @@ fn is_row(answer: &Answer, entry: u32, kind: u8, irq: u8, pin: u8, levels: u16) 
 
 fn are_rows(alloc: Global, number: u8, name: [u8; 6], elcr: u16) -> Option<bool> {
     let p = platform(alloc, number)?;
-    let answers = routes(alloc, &p, elcr).ok()?;
-    let levels = level_irqs(name, elcr);
     let ints = p.ints.as_slice();
-    let each = answers.as_slice().iter().zip(ints.iter()).zip(0..16u32).all(|(
-        (answer, e),
-        at,
-    )| is_row(answer, at, e.kind, e.irq, e.pin, levels));
-    Some(each && answers.len() == ints.len())
+    if ints.len() > 255 {
+        return None;
+    }
+    let Ok(answers) = routes(alloc, &p, elcr) else {
+        return None;
+    };
+    let levels = level_irqs(name, elcr);
+    let mut all = answers.len() == ints.len();
+    let mut at = 0u32;
+    for (answer, e) in answers.as_slice().iter().zip(ints.iter()) {
+        all = all && is_row(answer, at, e.kind, e.irq, e.pin, levels);
+        at = at.saturating_add(1);
+    }
+    Some(all)
 }
 
 #[test]
-fn defaults_are_routed_under_three_elcr_words(rt: HostRuntime) -> Result<(), Fail> {
-    let alloc = rt.alloc();
+fn defaults_are_routed_under_three_elcr_words(rt: HostRuntime) {
     for (number, name, _, _, _) in ROWS {
         for elcr in [0x0000, 0x0E21, 0xFFFF] {
-            let right = are_rows(alloc, number, name, elcr).ok_or("no memory")?;
-            assert!(rt; right, "at {number} and {elcr}");
+            same(
+                &rt,
+                "a default and a word of the ELCR",
+                (number, elcr, are_rows(rt.alloc(), number, name, elcr)),
+                (number, elcr, Some(true)),
+            );
         }
     }
-    Ok(())
 }

@@ -7,6 +7,8 @@ mod audits;
 #[cfg(test)]
 mod defaults;
 #[cfg(test)]
+mod harness;
+#[cfg(test)]
 mod routing;
 #[cfg(test)]
 mod tables;

@@ -1,11 +1,12 @@
 //! Each reason for which an entry has no route, alone and before each that can stand beside it, and the
 //! rows of those that have one.
 
+use crate::harness::same;
 use crate::tables::entry;
 use mpt_route::{Answer, Platform, Route, Why, boot_processor_of, routes};
 use mpt_spec::{Bus, IntEntry, IoApic, Processor, Sequence};
 use std::alloc::Global;
-use std::test::Fail;
+use std::process::Abort;
 
 // an I/O APIC with an id and flags
 fn io(id: u8, flags: u8) -> IoApic {
@@ -86,6 +87,32 @@ fn reason(alloc: Global, e: IntEntry) -> Option<Why> {
     }
 }
 
+// the reason of an entry
+fn same_reason(rt: &impl Abort, alloc: Global, e: IntEntry, why: Why) {
+    let is_told = reason(alloc, e) == Some(why);
+    same(rt, "the reason of an entry", (e, is_told), (e, true));
+}
+
+// the answer of this number
+fn same_answer(rt: &impl Abort, answers: &[Answer], at: u32, expected: Answer) {
+    let is_told = answers_at(answers, at as usize, expected);
+    same(rt, "the answer of a number", (at, is_told), (at, true));
+}
+
+// the only answer to an entry that stands alone, with the ELCR 0020h
+fn same_row(rt: &impl Abort, alloc: Global, e: IntEntry, expected: Answer) {
+    let Some(answers) = answers(alloc, &[e], 0x0020) else {
+        panic!(rt; "no memory");
+    };
+    let is_told = answers_at(answers.as_slice(), 0, expected);
+    same(
+        rt,
+        "the row of an entry",
+        (e, answers.len(), is_told),
+        (e, 1, true),
+    );
+}
+
 #[test]
 fn each_reason_is_told_alone(rt: HostRuntime) {
     let alloc = rt.alloc();
@@ -104,9 +131,10 @@ fn each_reason_is_told_alone(rt: HostRuntime) {
         (entry(0, 0, 1, 1, 4, 3), Why::Shared),
     ];
     for (row, why) in rows {
-        assert!(rt; reason(alloc, row) == Some(why));
+        same_reason(&rt, alloc, row, why);
     }
-    assert!(rt; reason(alloc, entry(0, 5, 3, 1, 4, 4)).is_none());
+    let routed = reason(alloc, entry(0, 5, 3, 1, 4, 4));
+    same(&rt, "no reason", routed.is_none(), true);
 }
 
 #[test]
@@ -141,7 +169,7 @@ fn the_first_reason_is_told(rt: HostRuntime) {
         (entry(0, 12, 3, 1, 4, 3), Why::Conforms),
     ];
     for (row, why) in rows {
-        assert!(rt; reason(alloc, row) == Some(why));
+        same_reason(&rt, alloc, row, why);
     }
 }
 
@@ -158,7 +186,7 @@ fn row(io: u8, pin: u8, vector: u8, low: u32) -> Answer {
 }
 
 #[test]
-fn rows_follow_bus_and_flags(rt: HostRuntime) -> Result<(), Fail> {
+fn rows_follow_bus_and_flags(rt: HostRuntime) {
     let alloc = rt.alloc();
     let rows = [
         (entry(0, 0, 0, 5, 2, 0), row(0, 0, 0x20, 0xA020)),
@@ -180,16 +208,13 @@ fn rows_follow_bus_and_flags(rt: HostRuntime) -> Result<(), Fail> {
         (entry(3, 0xFFF5, 0, 0, 2, 8), row(0, 8, 0x00, 0x0700)),
     ];
     for (e, expected) in rows {
-        let answers = answers(alloc, &[e], 0x0020).ok_or("no memory")?;
-        assert!(rt; answers.len() == 1);
-        assert!(rt; answers_at(answers.as_slice(), 0, expected));
+        same_row(&rt, alloc, e, expected);
     }
-    Ok(())
 }
 
 // an unrouted entry takes no pin, and the first routed one decides what later ones are told
 #[test]
-fn the_first_routed_entry_has_the_pin(rt: HostRuntime) -> Result<(), Fail> {
+fn the_first_routed_entry_has_the_pin(rt: HostRuntime) {
     let alloc = rt.alloc();
     let ints = [
         entry(4, 5, 1, 1, 4, 3),
@@ -199,7 +224,9 @@ fn the_first_routed_entry_has_the_pin(rt: HostRuntime) -> Result<(), Fail> {
         entry(0, 5, 1, 1, 4, 3),
         entry(0, 5, 1, 1, 5, 3),
     ];
-    let answers = answers(alloc, &ints, 0).ok_or("no memory")?;
+    let Some(answers) = answers(alloc, &ints, 0) else {
+        panic!(rt; "no memory");
+    };
     let told = [
         (0, Why::UnknownKind),
         (2, Why::Clash),
@@ -208,7 +235,7 @@ fn the_first_routed_entry_has_the_pin(rt: HostRuntime) -> Result<(), Fail> {
     ];
     for (at, why) in told {
         let expected = Answer::Unrouted { entry: at, why };
-        assert!(rt; answers_at(answers.as_slice(), at as usize, expected));
+        same_answer(&rt, answers.as_slice(), at, expected);
     }
     for (at, io, vector) in [(1, 1, 0x3B), (5, 3, 0x6B)] {
         let expected = Answer::Routed(Route {
@@ -219,17 +246,18 @@ fn the_first_routed_entry_has_the_pin(rt: HostRuntime) -> Result<(), Fail> {
             high: 0x0300_0000,
             entry: at,
         });
-        assert!(rt; answers_at(answers.as_slice(), at as usize, expected));
+        same_answer(&rt, answers.as_slice(), at, expected);
     }
-    Ok(())
 }
 
 // a processor with BP alone, or EN alone, doesn't boot; the first with both does
 #[test]
-fn the_first_processor_with_both_flags_boots(rt: HostRuntime) -> Result<(), Fail> {
-    let alloc = rt.alloc();
-    let platform = platform(alloc, &[]).ok_or("no memory")?;
-    let boot = boot_processor_of(&platform).ok_or("no boot processor")?;
-    assert!(rt; boot.apic == 3);
-    Ok(())
+fn the_first_processor_with_both_flags_boots(rt: HostRuntime) {
+    let Some(platform) = platform(rt.alloc(), &[]) else {
+        panic!(rt; "no memory");
+    };
+    let Some(boot) = boot_processor_of(&platform) else {
+        panic!(rt; "no boot processor");
+    };
+    same(&rt, "the boot processor", boot.apic, 3);
 }

@@ -1,13 +1,9 @@
 //! Tables of entries that are written out.
 
-ghost use Rattle.std.specs.Prelude.{IfSome};
-ghost use Rattle.mpt_spec.specs.Canonical.{IsWellFormed};
-
 use mpt_spec::{
     Base, Body, Bus, Ext, Hierarchy, IntEntry, IoApic, Modifier, Pointer, Processor, Sequence,
     Space, Table, Tables,
 };
-use mpt_write::well_formed;
 use std::alloc::{AllocError, Global};
 
 /// A processor with a local APIC id and flags.
@@ -105,34 +101,17 @@ pub(crate) fn pointer(features: [u8; 5]) -> Pointer {
     }
 }
 
-/// The tables of a default configuration; `None` where there is none of this number.
-pub(crate) fn default_tables(number: u8, features: [u8; 4]) -> Option<Tables>
-    ensures { IfSome result (λ tables. IsWellFormed tables) }
-{
-    let [second, third, fourth, fifth] = features;
-    judged(Tables {
+/// The tables of a default configuration, with feature bytes 2 and 5 of the floating pointer.
+pub(crate) fn default_tables(number: u8, second: u8, fifth: u8) -> Tables {
+    Tables {
         at: 0xF_0000,
-        pointer: pointer([number, second, third, fourth, fifth]),
+        pointer: pointer([number, second, 0, 0, fifth]),
         body: Body::Default(number),
-    })
-}
-
-// the tables, where they are well formed
-fn judged(tables: Tables) -> Option<Tables>
-    ensures { IfSome result (λ tables. IsWellFormed tables) }
-{
-    if well_formed(&tables) {
-        Some(tables)
-    } else {
-        None
     }
 }
 
-/// Listed tables of these entries; `None` where memory runs out or the entries are too many.
-pub(crate) fn listed(alloc: Global, base: &[Base], parts: &[Part]) -> Option<Tables>
-    ensures { IfSome result (λ tables. IsWellFormed tables) }
-{
-    let base = Vec::from_slice(alloc, base).ok()?;
+/// Listed tables of these entries.
+pub(crate) fn listed(alloc: Global, base: &[Base], parts: &[Part]) -> Result<Tables, AllocError> {
     with_entries(alloc, base, parts, 0, 0)
 }
 
@@ -140,13 +119,13 @@ pub(crate) fn listed(alloc: Global, base: &[Base], parts: &[Part]) -> Option<Tab
 /// the header.
 pub(crate) fn with_entries(
     alloc: Global,
-    base: Vec<Base>,
+    base: &[Base],
     parts: &[Part],
     feature: u8,
     reserved: u8,
-) -> Option<Tables>
-    ensures { IfSome result (λ tables. IsWellFormed tables) }
-{
+) -> Result<Tables, AllocError> {
+    let base = Vec::from_slice(alloc, base)?;
+    let ext = exts(alloc, parts)?;
     let table = Table {
         revision: 4,
         oem: *b"MPTAB   ",
@@ -156,9 +135,9 @@ pub(crate) fn with_entries(
         local_address: 0xFEE0_0000,
         reserved,
         base: Sequence::new(base),
-        ext: Sequence::new(exts(alloc, parts).ok()?),
+        ext: Sequence::new(ext),
     };
-    judged(Tables {
+    Ok(Tables {
         at: 0xF_0000,
         pointer: pointer([0, feature, 0, 0, 0]),
         body: Body::Listed(table),

@@ -1,66 +1,83 @@
 //! A usual two-processor board, and the lines of its routes and findings.
 
-ghost use Rattle.std.specs.Prelude.{IfSome};
-ghost use Rattle.mpt_spec.specs.Canonical.{IsWellFormed};
-
+use crate::harness::same;
 use crate::tables::{bus, cpu, default_tables, int, io, lint, listed};
 use mpt_answers::{print_findings, print_routes, read_elcr};
 use mpt_audit::audit;
 use mpt_route::{platform_of, routes};
 use mpt_spec::{Base, Tables};
-use std::alloc::Global;
+use mpt_write::well_formed;
+use std::alloc::{AllocError, Global};
+use std::process::Abort;
 use std::test::Fail;
 
-/// The lines of the routes of tables.
-pub(crate) fn route_lines(alloc: Global, tables: &Tables, elcr: u16) -> Option<Vec<u8>>
-    requires { IsWellFormed tables.now }
-{
-    let platform = platform_of(alloc, tables).ok()?;
-    let answers = routes(alloc, &platform, elcr).ok()?;
+// the lines of the routes of well formed tables
+fn route_lines(alloc: Global, tables: &Tables, elcr: u16) -> Option<Vec<u8>> {
+    if !well_formed(tables) {
+        return None;
+    }
+    let Ok(platform) = platform_of(alloc, tables) else {
+        return None;
+    };
+    let Ok(answers) = routes(alloc, &platform, elcr) else {
+        return None;
+    };
     print_routes(alloc, answers.as_slice()).ok()
 }
 
-/// The lines of the findings of tables.
-pub(crate) fn finding_lines(alloc: Global, tables: &Tables) -> Option<Vec<u8>>
-    requires { IsWellFormed tables.now }
-{
-    let found = audit(alloc, tables).ok()?;
+// the lines of the findings of well formed tables
+fn finding_lines(alloc: Global, tables: &Tables) -> Option<Vec<u8>> {
+    if !well_formed(tables) {
+        return None;
+    }
+    let Ok(found) = audit(alloc, tables) else {
+        return None;
+    };
     print_findings(alloc, found.as_slice()).ok()
 }
 
-// the base entries of the board, with one more I/O interrupt where flags are given
-fn board(alloc: Global, flags: Option<u16>) -> Option<Vec<Base>> {
-    let mut base = Vec::new(alloc);
-    base.push(cpu(0, 3)).ok()?;
-    base.push(cpu(1, 1)).ok()?;
-    base.push(bus(0, *b"PCI   ")).ok()?;
-    base.push(bus(1, *b"ISA   ")).ok()?;
-    base.push(io(0, 1)).ok()?;
-    base.push(int(0, 0, 0, 0x08, 0, 0x10)).ok()?;
-    base.push(int(3, 0, 1, 0, 0, 0)).ok()?;
-    base.push(int(0, 0, 1, 0, 0, 2)).ok()?;
-    base.push(int(0, 0, 1, 1, 0, 1)).ok()?;
-    for irq in 3..16 {
-        base.push(int(0, 0, 1, irq, 0, irq)).ok()?;
-    }
-    if let Some(flags) = flags {
-        base.push(int(0, flags, 0, 0x0C, 0, 0x10)).ok()?;
-    }
-    base.push(lint(3, 0, 1, 0, 0, 0)).ok()?;
-    base.push(lint(1, 0, 1, 0, 0xFF, 1)).ok()?;
-    Some(base)
+fn same_findings(rt: &impl Abort, alloc: Global, tables: &Tables, want: &[u8]) {
+    let Some(text) = finding_lines(alloc, tables) else {
+        panic!(rt; "no findings");
+    };
+    same(rt, "the lines of the findings", text.as_slice(), want);
 }
 
-fn board_tables(alloc: Global, flags: Option<u16>) -> Option<Tables>
-    ensures { IfSome result (λ tables. IsWellFormed tables) }
-{
-    let base = board(alloc, flags)?;
+// the base entries of the board, with more I/O interrupts behind its own
+fn board(alloc: Global, more: &[Base]) -> Result<Vec<Base>, AllocError> {
+    let start = [
+        cpu(0, 3),
+        cpu(1, 1),
+        bus(0, *b"PCI   "),
+        bus(1, *b"ISA   "),
+        io(0, 1),
+        int(0, 0, 0, 0x08, 0, 0x10),
+        int(3, 0, 1, 0, 0, 0),
+        int(0, 0, 1, 0, 0, 2),
+        int(0, 0, 1, 1, 0, 1),
+        int(0, 0, 1, 3, 0, 3),
+        int(0, 0, 1, 4, 0, 4),
+        int(0, 0, 1, 5, 0, 5),
+        int(0, 0, 1, 6, 0, 6),
+        int(0, 0, 1, 7, 0, 7),
+        int(0, 0, 1, 8, 0, 8),
+        int(0, 0, 1, 9, 0, 9),
+        int(0, 0, 1, 10, 0, 10),
+        int(0, 0, 1, 11, 0, 11),
+        int(0, 0, 1, 12, 0, 12),
+        int(0, 0, 1, 13, 0, 13),
+        int(0, 0, 1, 14, 0, 14),
+        int(0, 0, 1, 15, 0, 15),
+    ];
+    let mut base = Vec::from_slice(alloc, &start)?;
+    base.extend_from_slice(more)?;
+    base.extend_from_slice(&[lint(3, 0, 1, 0, 0, 0), lint(1, 0, 1, 0, 0xFF, 1)])?;
+    Ok(base)
+}
+
+fn board_tables(alloc: Global, more: &[Base]) -> Result<Tables, AllocError> {
+    let base = board(alloc, more)?;
     listed(alloc, base.as_slice(), &[])
-}
-
-fn board_routes(alloc: Global, flags: Option<u16>) -> Option<Vec<u8>> {
-    let tables = board_tables(alloc, flags)?;
-    route_lines(alloc, &tables, 0)
 }
 
 const FIRST_LINES: &[u8] = b"route 0 io 0 pin 16 vector 30 low 0000A030 high 00000000
@@ -70,60 +87,87 @@ route 3 io 0 pin 1 vector 21 low 00000021 high 00000000
 ";
 
 fn count_lines(text: &[u8]) -> usize {
-    text.iter().filter(|byte| **byte == b'\n').count()
+    let mut count = 0usize;
+    for byte in text {
+        if *byte == b'\n' {
+            count = count.saturating_add(1);
+        }
+    }
+    count
+}
+
+// the lines that the text begins with
+fn begins(rt: &impl Abort, text: &[u8], head: &[u8]) {
+    let found = text.get(..head.len());
+    same(rt, "the first lines", found, Some(head));
+}
+
+// the line that the text ends with
+fn ends(rt: &impl Abort, text: &[u8], last: &[u8]) {
+    same(rt, "the last line", text.ends_with(last), true);
+}
+
+// the lines of the routes of the board with more I/O interrupts
+fn board_lines(rt: &impl Abort, alloc: Global, more: &[Base]) -> Vec<u8> {
+    let Ok(tables) = board_tables(alloc, more) else {
+        panic!(rt; "out of memory");
+    };
+    lines_of(rt, alloc, &tables, 0)
+}
+
+fn lines_of(rt: &impl Abort, alloc: Global, tables: &Tables, elcr: u16) -> Vec<u8> {
+    let Some(text) = route_lines(alloc, tables, elcr) else {
+        panic!(rt; "no routes");
+    };
+    text
 }
 
 #[test]
-fn routes_a_usual_board(rt: HostRuntime) -> Result<(), Fail> {
-    let alloc = rt.alloc();
-    let text = board_routes(alloc, None).ok_or("no memory")?;
-    assert!(rt; text.as_slice().starts_with(FIRST_LINES));
-    assert!(rt; count_lines(text.as_slice()) == 17);
-    let text = board_routes(alloc, Some(5)).ok_or("no memory")?;
-    assert!(rt; text.as_slice().ends_with(b"\nunrouted 17 Clash\n"));
-    assert!(rt; count_lines(text.as_slice()) == 18);
-    let text = board_routes(alloc, Some(0)).ok_or("no memory")?;
-    assert!(rt; text.as_slice().ends_with(b"\nunrouted 17 Shared\n"));
-    Ok(())
+fn routes_a_usual_board(rt: HostRuntime) {
+    let text = board_lines(&rt, rt.alloc(), &[]);
+    begins(&rt, text.as_slice(), FIRST_LINES);
+    same(&rt, "17 lines", count_lines(text.as_slice()), 17);
+    let clash = int(0, 5, 0, 0x0C, 0, 0x10);
+    let text = board_lines(&rt, rt.alloc(), &[clash]);
+    ends(&rt, text.as_slice(), b"\nunrouted 17 Clash\n");
+    same(&rt, "18 lines", count_lines(text.as_slice()), 18);
+    let shared = int(0, 0, 0, 0x0C, 0, 0x10);
+    let text = board_lines(&rt, rt.alloc(), &[shared]);
+    ends(&rt, text.as_slice(), b"\nunrouted 17 Shared\n");
 }
 
 #[test]
 fn audits_a_usual_board(rt: HostRuntime) -> Result<(), Fail> {
     let alloc = rt.alloc();
-    let tables = board_tables(alloc, None).ok_or("no memory")?;
-    let text = finding_lines(alloc, &tables).ok_or("no memory")?;
-    assert!(rt; text.as_slice() == b"rule 6 entry 4 other 0\nfindings 1\n".as_slice());
-    let tables = listed(alloc, &[cpu(0, 3)], &[]).ok_or("no memory")?;
-    let text = finding_lines(alloc, &tables).ok_or("no memory")?;
-    assert!(rt; text.as_slice() == b"rule 8 entry - other -\nfindings 1\n".as_slice());
-    let tables = default_tables(5, [0; 4]).ok_or("no such default")?;
-    let text = finding_lines(alloc, &tables).ok_or("no memory")?;
-    assert!(rt; text.as_slice() == b"findings 0\n".as_slice());
+    let tables = board_tables(alloc, &[])?;
+    same_findings(&rt, alloc, &tables, b"rule 6 entry 4 other 0\nfindings 1\n");
+    let tables = listed(alloc, &[cpu(0, 3)], &[])?;
+    same_findings(&rt, alloc, &tables, b"rule 8 entry - other -\nfindings 1\n");
+    let tables = default_tables(5, 0, 0);
+    same_findings(&rt, alloc, &tables, b"findings 0\n");
     Ok(())
 }
 
 #[test]
-fn routes_a_default_by_its_lines(rt: HostRuntime) -> Result<(), Fail> {
-    let alloc = rt.alloc();
-    let tables = default_tables(2, [0x80, 0, 0, 0]).ok_or("no such default")?;
-    let text = route_lines(alloc, &tables, 0).ok_or("no memory")?;
-    assert!(rt;
-        text.as_slice().starts_with(
-            b"route 0 io 0 pin 0 vector 00 low 00000700 high 00000000
+fn routes_a_default_by_its_lines(rt: HostRuntime) {
+    let tables = default_tables(2, 0x80, 0);
+    let text = lines_of(&rt, rt.alloc(), &tables, 0);
+    begins(
+        &rt,
+        text.as_slice(),
+        b"route 0 io 0 pin 0 vector 00 low 00000700 high 00000000
 route 1 io 0 pin 1 vector 21 low 00000021 high 00000000
-"
-        )
+",
     );
-    assert!(rt; count_lines(text.as_slice()) == 14);
-    let text = route_lines(alloc, &tables, 2).ok_or("no memory")?;
-    assert!(rt;
-        text.as_slice().starts_with(
-            b"route 0 io 0 pin 0 vector 00 low 00000700 high 00000000
+    same(&rt, "14 lines", count_lines(text.as_slice()), 14);
+    let text = lines_of(&rt, rt.alloc(), &tables, 2);
+    begins(
+        &rt,
+        text.as_slice(),
+        b"route 0 io 0 pin 0 vector 00 low 00000700 high 00000000
 route 1 io 0 pin 1 vector 21 low 0000A021 high 00000000
-"
-        )
+",
     );
-    Ok(())
 }
 
 #[test]
@@ -141,6 +185,6 @@ fn reads_the_elcr_of_four_digits(rt: HostRuntime) {
         ("0x00", None),
     ];
     for (word, number) in rows {
-        assert!(rt; read_elcr(word) == number, "at {word}");
+        same(&rt, word, read_elcr(word), number);
     }
 }

@@ -1,57 +1,68 @@
 //! Listings that end anywhere, or of which one byte is another.
 
-use crate::harness::{Answer, answer_to};
+use crate::harness::{Answer, answer_to, same};
 use crate::texts::{DEFAULT, EVERY_FORM, ONE_PROCESSOR, USUAL_BOARD};
 use std::alloc::Global;
-use std::test::Fail;
+use std::process::Abort;
 
-/// The first length at which a part of the text, but not all of it, isn't refused where it ends: Early
-/// behind a line, Form inside one.
-fn first_wrong_cut(alloc: Global, text: &[u8]) -> Option<usize> {
+/// The answer to the first bytes of a text.
+fn answer_to_cut(alloc: Global, text: &[u8], length: usize) -> Option<Answer> {
+    match text.get(..length) {
+        Some(cut) => Some(answer_to(alloc, cut)),
+        None => None,
+    }
+}
+
+/// Each part of the text, but not all of it, is refused where it ends: Early behind a line, Form inside
+/// one.
+fn same_cuts(rt: &impl Abort, alloc: Global, text: &[u8]) {
     let mut line = 1u32;
     let mut want = Answer::Early(1);
-    for length in 0..text.len() {
-        if answer_to(alloc, &text[..length]) != want {
-            return Some(length);
-        }
-        if text[length] == b'\n' {
+    let mut length = 0usize;
+    for byte in text {
+        let answer = answer_to_cut(alloc, text, length);
+        same(rt, "a cut text", (length, answer), (length, Some(want)));
+        if *byte == b'\n' {
             line = line.saturating_add(1);
             want = Answer::Early(line);
         } else {
             want = Answer::Form(line);
         }
+        length = length.saturating_add(1);
     }
-    None
+    let answer = answer_to(alloc, text);
+    same(rt, "the whole text", answer, Answer::Accepted);
 }
 
 #[test]
 fn cut_at_each_byte(rt: HostRuntime) {
     for text in [ONE_PROCESSOR, DEFAULT, USUAL_BOARD, EVERY_FORM] {
-        assert_eq!(rt; first_wrong_cut(rt.alloc(), text), None);
-        assert_eq!(rt; answer_to(rt.alloc(), text), Answer::Accepted);
+        same_cuts(&rt, rt.alloc(), text);
     }
 }
 
-/// The first place at which a byte that stands in no listing isn't Form at its line.
-fn first_wrong_byte(alloc: Global, text: &[u8]) -> Result<Option<usize>, Fail> {
-    let mut changed = Vec::from_slice(alloc, text)?;
+/// A byte that stands in no listing is Form at its line, at each place.
+fn same_wrong_bytes(rt: &impl Abort, alloc: Global, text: &[u8]) {
+    let Ok(mut changed) = Vec::from_slice(alloc, text) else {
+        panic!(rt; "out of memory");
+    };
     let mut line = 1u32;
-    for place in 0..text.len() {
-        let answer = answer_with(alloc, &mut changed, place, text[place]);
-        if answer != Answer::Form(line) {
-            return Ok(Some(place));
-        }
-        if text[place] == b'\n' {
+    let mut place = 0usize;
+    for byte in text {
+        let answer = answer_with(alloc, changed.as_mut_slice(), place, *byte);
+        let want = Answer::Form(line);
+        same(rt, "a wrong byte", (place, answer), (place, want));
+        if *byte == b'\n' {
             line = line.saturating_add(1);
         }
+        place = place.saturating_add(1);
     }
-    Ok(None)
 }
 
 /// The answer to the text with the byte 1 at a place, where it has this byte again afterwards.
-fn answer_with(alloc: Global, text: &mut Vec<u8>, place: usize, byte: u8) -> Answer {
+fn answer_with(alloc: Global, text: &mut [u8], place: usize, byte: u8) -> Answer {
     put(text, place, 1);
-    let answer = answer_to(alloc, text.as_slice());
+    let answer = answer_to(alloc, text);
     put(text, place, byte);
     answer
 }
@@ -63,9 +74,8 @@ fn put(text: &mut [u8], place: usize, byte: u8) {
 }
 
 #[test]
-fn one_wrong_byte_anywhere(rt: HostRuntime) -> Result<(), Fail> {
+fn one_wrong_byte_anywhere(rt: HostRuntime) {
     for text in [ONE_PROCESSOR, DEFAULT, USUAL_BOARD, EVERY_FORM] {
-        assert_eq!(rt; first_wrong_byte(rt.alloc(), text)?, None);
+        same_wrong_bytes(&rt, rt.alloc(), text);
     }
-    Ok(())
 }

@@ -2,8 +2,14 @@
 
 use mpt_parse::{LineWhy, ListingFault, parse};
 use mpt_spec::Tables;
-use std::alloc::Global;
-use std::test::Fail;
+use std::alloc::{AllocError, Global};
+use std::fmt::Debug;
+use std::process::Abort;
+
+/// Ends the test where the two differ, and prints both and the name of the row.
+pub(crate) fn same<T: PartialEq + Debug + Drop>(rt: &impl Abort, name: &str, got: T, want: T) {
+    assert_eq!(rt; got, want, "{name}");
+}
 
 /// The longest text that is asked about.
 const LIMIT: usize = 4_194_304;
@@ -68,7 +74,7 @@ pub(crate) fn with_line(
     text: &[u8],
     number: usize,
     line: &[u8],
-) -> Result<Vec<u8>, Fail> {
+) -> Result<Vec<u8>, AllocError> {
     let mut out = Vec::new(alloc);
     let mut at = 1usize;
     if at == number {
@@ -88,17 +94,17 @@ pub(crate) fn with_line(
     Ok(out)
 }
 
-/// The name of the first row that has another answer.
-pub(crate) fn first_wrong(
-    alloc: Global,
-    text: &[u8],
-    rows: &[Row],
-) -> Result<Option<&'static str>, Fail> {
+/// The answer to each row's text.
+pub(crate) fn same_answers(rt: &impl Abort, alloc: Global, text: &[u8], rows: &[Row]) {
     for row in rows {
-        let changed = with_line(alloc, text, row.number, row.line)?;
-        if answer_to(alloc, changed.as_slice()) != row.answer {
-            return Ok(Some(row.name));
-        }
+        same_answer(rt, alloc, text, row);
     }
-    Ok(None)
+}
+
+fn same_answer(rt: &impl Abort, alloc: Global, text: &[u8], row: &Row) {
+    let Ok(changed) = with_line(alloc, text, row.number, row.line) else {
+        panic!(rt; "out of memory");
+    };
+    let answer = answer_to(alloc, changed.as_slice());
+    same(rt, row.name, answer, row.answer);
 }

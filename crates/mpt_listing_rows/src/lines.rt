@@ -1,8 +1,7 @@
 //! Lines of each kind that are right or wrong in one place.
 
-use crate::harness::{Answer, Row, first_wrong};
+use crate::harness::{Answer, Row, same_answers};
 use crate::texts::{EVERY_FORM, USUAL_BOARD};
-use std::test::Fail;
 
 const HEADS: &[Row] = &[
     Row {
@@ -410,10 +409,10 @@ const ENDS: &[Row] = &[
 ];
 
 #[test]
-fn lines_of_each_kind(rt: HostRuntime) -> Result<(), Fail> {
-    for rows in [HEADS, QUOTED, ENTRIES, OPAQUE] {
-        assert_eq!(rt; first_wrong(rt.alloc(), EVERY_FORM, rows)?, None);
-    }
-    assert_eq!(rt; first_wrong(rt.alloc(), USUAL_BOARD, ENDS)?, None);
-    Ok(())
+fn lines_of_each_kind(rt: HostRuntime) {
+    same_answers(&rt, rt.alloc(), EVERY_FORM, HEADS);
+    same_answers(&rt, rt.alloc(), EVERY_FORM, QUOTED);
+    same_answers(&rt, rt.alloc(), EVERY_FORM, ENTRIES);
+    same_answers(&rt, rt.alloc(), EVERY_FORM, OPAQUE);
+    same_answers(&rt, rt.alloc(), USUAL_BOARD, ENDS);
 }

@@ -1,9 +1,9 @@
 //! Tables at each bound of an image of 1 MiB, and parts at the bound of what 16 bits can say.
 
-use crate::harness::{Answer, Row, answer_to, first_wrong};
+use crate::harness::{Answer, Row, answer_to, same, same_answers};
 use crate::texts::{DEFAULT, ONE_PROCESSOR, USUAL_BOARD};
-use std::alloc::Global;
-use std::test::Fail;
+use std::alloc::{AllocError, Global};
+use std::process::Abort;
 
 const BLOCK: &[Row] = &[
     Row {
@@ -159,11 +159,10 @@ const NO_BLOCK: &[Row] = &[
 ];
 
 #[test]
-fn places_at_each_bound(rt: HostRuntime) -> Result<(), Fail> {
-    assert_eq!(rt; first_wrong(rt.alloc(), ONE_PROCESSOR, BLOCK)?, None);
-    assert_eq!(rt; first_wrong(rt.alloc(), USUAL_BOARD, USUAL)?, None);
-    assert_eq!(rt; first_wrong(rt.alloc(), DEFAULT, NO_BLOCK)?, None);
-    Ok(())
+fn places_at_each_bound(rt: HostRuntime) {
+    same_answers(&rt, rt.alloc(), ONE_PROCESSOR, BLOCK);
+    same_answers(&rt, rt.alloc(), USUAL_BOARD, USUAL);
+    same_answers(&rt, rt.alloc(), DEFAULT, NO_BLOCK);
 }
 
 /// What stands before the entries of a large table, which begins at 500h.
@@ -173,7 +172,7 @@ header revision 04 oem \"MPTAB   \" product \"BOARD       \" oemtable 00000000 o
 ";
 
 /// Writes the line of an opaque entry with this many bytes behind its length.
-fn push_opaque(out: &mut Vec<u8>, bytes: usize) -> Result<(), Fail> {
+fn push_opaque(out: &mut Vec<u8>, bytes: usize) -> Result<(), AllocError> {
     out.extend_from_slice(b"opaque kind 83 rest ")?;
     for _ in 0..bytes {
         out.extend_from_slice(b"5A")?;
@@ -192,7 +191,7 @@ struct Large {
     answer: Answer,
 }
 
-fn listing_of(alloc: Global, large: &Large) -> Result<Vec<u8>, Fail> {
+fn listing_of(alloc: Global, large: &Large) -> Result<Vec<u8>, AllocError> {
     let mut text = Vec::from_slice(alloc, LARGE)?;
     for _ in 0..large.buses {
         text.extend_from_slice(b"bus id 00 name \"ISA   \"\n")?;
@@ -290,11 +289,19 @@ const LARGE_TABLES: &[Large] = &[
     },
 ];
 
+// the answer to a large table
+fn same_large(rt: &impl Abort, alloc: Global, large: &Large) {
+    let Ok(text) = listing_of(alloc, large) else {
+        panic!(rt; "out of memory");
+    };
+    let answer = answer_to(alloc, text.as_slice());
+    let row = (large.buses, large.opaque, large.last, large.bare);
+    same(rt, "a large table", (row, answer), (row, large.answer));
+}
+
 #[test]
-fn parts_at_16_bits(rt: HostRuntime) -> Result<(), Fail> {
+fn parts_at_16_bits(rt: HostRuntime) {
     for large in LARGE_TABLES {
-        let text = listing_of(rt.alloc(), large)?;
-        assert_eq!(rt; answer_to(rt.alloc(), text.as_slice()), large.answer);
+        same_large(&rt, rt.alloc(), large);
     }
-    Ok(())
 }

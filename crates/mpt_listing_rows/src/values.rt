@@ -1,34 +1,47 @@
 //! Listings that are accepted: the tables that they say, and their text again.
 
-use crate::harness::tables_of;
+use crate::harness::{same, tables_of};
 use crate::texts::{DEFAULT, EVERY_FORM, ONE_PROCESSOR, USUAL_BOARD};
 use mpt_listing::print;
 use mpt_spec::{
     Base, Body, Bus, Ext, Hierarchy, IntEntry, IoApic, Modifier, Pointer, Processor, Space, Table,
 };
+use std::alloc::Global;
+use std::process::Abort;
 use std::test::Fail;
 
+// the text of the tables that a text says
+fn same_again(rt: &impl Abort, alloc: Global, text: &[u8]) {
+    let Ok(tables) = tables_of(alloc, text) else {
+        panic!(rt; "not accepted");
+    };
+    let Ok(again) = print(alloc, &tables) else {
+        panic!(rt; "out of memory");
+    };
+    same(rt, "the text again", again.as_slice(), text);
+}
+
 #[test]
-fn texts_come_again(rt: HostRuntime) -> Result<(), Fail> {
+fn texts_come_again(rt: HostRuntime) {
     for text in [ONE_PROCESSOR, DEFAULT, USUAL_BOARD, EVERY_FORM] {
-        let tables = tables_of(rt.alloc(), text)?;
-        let again = print(rt.alloc(), &tables)?;
-        assert_eq!(rt; again.as_slice(), text);
+        same_again(&rt, rt.alloc(), text);
     }
-    Ok(())
 }
 
 #[test]
 fn default_configuration(rt: HostRuntime) -> Result<(), Fail> {
     let tables = tables_of(rt.alloc(), DEFAULT)?;
-    assert_eq!(rt; tables.at, 0x9FC00);
+    same(&rt, "the place", tables.at, 0x9FC00);
     let pointer = Pointer {
         address: 0,
         revision: 4,
         features: [5, 0x80, 0, 0, 1],
     };
-    assert_eq!(rt; tables.pointer, pointer);
-    assert_eq!(rt; matches!(&tables.body, Body::Default(5)), true);
+    same(&rt, "the pointer", tables.pointer, pointer);
+    let Body::Default(number) = &tables.body else {
+        panic!(rt; "a listed table");
+    };
+    same(&rt, "the default configuration", *number, 5);
     Ok(())
 }
 
@@ -90,56 +103,72 @@ const MODIFIER: Modifier = Modifier {
     ranges: 0x80000001,
 };
 
-/// Whether they are the extended entries of that listing.
-fn are_ext(entries: &[Ext]) -> bool {
-    match entries {
-        [
-            Ext::Space(space),
-            Ext::Hierarchy(hierarchy),
-            Ext::Modifier(modifier),
-            Ext::Opaque(least),
-            Ext::Opaque(greatest),
-        ] => {
-            *space == SPACE
-                && *hierarchy == HIERARCHY
-                && *modifier == MODIFIER
-                && least.kind == 0x83
-                && least.rest.as_slice() == b"".as_slice()
-                && greatest.kind == 0xFF
-                && greatest.rest.as_slice() == b"\x0F\xA0\x22".as_slice()
-        }
-        _ => false,
-    }
+// the extended entries of that listing
+fn same_ext(rt: &impl Abort, entries: &[Ext]) {
+    same(rt, "the extended entries", entries.len(), 5);
+    same_space(rt, entries.first());
+    same_hierarchy(rt, entries.get(1));
+    same_modifier(rt, entries.get(2));
+    same_opaque(rt, entries.get(3), 0x83, b"");
+    same_opaque(rt, entries.get(4), 0xFF, b"\x0F\xA0\x22");
 }
 
-/// Whether the table has the header of that listing.
-fn has_header(table: &Table) -> bool {
-    table.revision == 4
-        && table.oem == *b"OEM \x1F ~\x80"
-        && table.product == *b"a'b\"c\\d\nef g"
-        && table.oem_table == 0xABCDEF
-        && table.oem_size == 0x3A0
-        && table.local_address == 0xFEE00000
-        && table.reserved == 0x5A
+fn same_space(rt: &impl Abort, entry: Option<&Ext>) {
+    let Some(Ext::Space(space)) = entry else {
+        panic!(rt; "no address space");
+    };
+    same(rt, "the address space", *space, SPACE);
+}
+
+fn same_hierarchy(rt: &impl Abort, entry: Option<&Ext>) {
+    let Some(Ext::Hierarchy(hierarchy)) = entry else {
+        panic!(rt; "no bus hierarchy");
+    };
+    same(rt, "the bus hierarchy", *hierarchy, HIERARCHY);
+}
+
+fn same_modifier(rt: &impl Abort, entry: Option<&Ext>) {
+    let Some(Ext::Modifier(modifier)) = entry else {
+        panic!(rt; "no address modifier");
+    };
+    same(rt, "the address modifier", *modifier, MODIFIER);
+}
+
+fn same_opaque(rt: &impl Abort, entry: Option<&Ext>, kind: u8, rest: &[u8]) {
+    let Some(Ext::Opaque(opaque)) = entry else {
+        panic!(rt; "no opaque entry");
+    };
+    let got = (opaque.kind, opaque.rest.as_slice());
+    same(rt, "an opaque entry", got, (kind, rest));
+}
+
+// the table of that listing
+fn same_table(rt: &impl Abort, table: &Table) {
+    same(rt, "the revision", table.revision, 4);
+    same(rt, "the OEM id", table.oem, *b"OEM \x1F ~\x80");
+    let product = *b"a'b\"c\\d\nef g";
+    same(rt, "the product id", table.product, product);
+    same(rt, "the OEM table", table.oem_table, 0xABCDEF);
+    same(rt, "its size", table.oem_size, 0x3A0);
+    same(rt, "the local APICs", table.local_address, 0xFEE00000);
+    same(rt, "the reserved byte", table.reserved, 0x5A);
+    same(rt, "the base entries", table.base.as_slice(), BASE);
+    same_ext(rt, table.ext.as_slice());
 }
 
 #[test]
 fn every_form(rt: HostRuntime) -> Result<(), Fail> {
     let tables = tables_of(rt.alloc(), EVERY_FORM)?;
-    assert_eq!(rt; tables.at, 0xF0000);
+    same(&rt, "the place", tables.at, 0xF0000);
     let pointer = Pointer {
         address: 0xE0000,
         revision: 4,
         features: [0, 0x80, 0xFF, 0, 1],
     };
-    assert_eq!(rt; tables.pointer, pointer);
-    match &tables.body {
-        Body::Default(_) => assert!(rt; false),
-        Body::Listed(table) => {
-            assert!(rt; has_header(table));
-            assert_eq!(rt; table.base.as_slice(), BASE);
-            assert!(rt; are_ext(table.ext.as_slice()));
-        }
-    }
+    same(&rt, "the pointer", tables.pointer, pointer);
+    let Body::Listed(table) = &tables.body else {
+        panic!(rt; "a default configuration");
+    };
+    same_table(&rt, table);
     Ok(())
 }

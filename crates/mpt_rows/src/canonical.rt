@@ -1,11 +1,13 @@
 //! The canonical form: order and reserved bits.
 
+use crate::harness::same;
 use crate::tables::{default, listed, lone};
 use mpt_spec::{
     Base, Body, Bus, Ext, Hierarchy, IntEntry, IoApic, Modifier, Pointer, Table, Tables,
 };
 use mpt_write::{canon, is_canon};
 use std::alloc::{AllocError, Global};
+use std::process::Abort;
 use std::test::Fail;
 
 fn interrupt(flags: u16) -> IntEntry {
@@ -37,9 +39,9 @@ fn bus(id: u8) -> Base {
 
 // tables in which every reserved bit is set, with their entries in another order than that of types
 fn reserved(alloc: Global) -> Result<Tables, AllocError> {
-    let base = Vec::from_array(
+    let base = Vec::from_slice(
         alloc,
-        [
+        &[
             Base::LocalInt(interrupt(0xFFFF)),
             bus(2),
             Base::IoInt(interrupt(0xFFFF)),
@@ -82,13 +84,6 @@ fn with_reserved(body: Body) -> Body {
     }
 }
 
-fn table_of(tables: &Tables) -> Option<&Table> {
-    match &tables.body {
-        Body::Listed(table) => Some(table),
-        Body::Default(_) => None,
-    }
-}
-
 // the flags of a modifier, the information of a hierarchy, and its reserved bytes
 fn bits_of(entry: &Ext) -> (u8, u8, [u8; 3]) {
     match entry {
@@ -98,20 +93,12 @@ fn bits_of(entry: &Ext) -> (u8, u8, [u8; 3]) {
     }
 }
 
-#[test]
-fn sorts_by_type_and_clears_what_is_reserved(rt: HostRuntime) -> Result<(), Fail> {
-    let tables = reserved(rt.alloc())?;
-    assert!(rt; !is_canon(&tables));
-    let Ok(form) = canon(rt.alloc(), tables) else {
-        panic!(rt; "out of memory");
-    };
-    assert!(rt; is_canon(&form));
-    assert_eq!(rt; form.pointer.features, [0, 0xC0, 0, 0, 0]);
-    let Some(table) = table_of(&form) else {
-        panic!(rt; "a listed table stays listed");
-    };
-    assert_eq!(rt; table.reserved, 0);
-    assert_eq!(rt;
+// the parts of the canonical form of those tables
+fn same_form(rt: &impl Abort, table: &Table) {
+    same(rt, "the reserved byte of the header", table.reserved, 0);
+    same(
+        rt,
+        "the base entries",
         table.base.as_slice(),
         [
             Base::Processor(lone(3, 0)),
@@ -122,13 +109,34 @@ fn sorts_by_type_and_clears_what_is_reserved(rt: HostRuntime) -> Result<(), Fail
             Base::IoInt(interrupt(15)),
             Base::LocalInt(interrupt(15)),
         ]
-        .as_slice()
+        .as_slice(),
     );
     let mut bits = [(0xFF, 0xFF, [0xFF; 3]); 2];
     for (slot, entry) in bits.iter_mut().zip(table.ext.as_slice()) {
         *slot = bits_of(entry);
     }
-    assert_eq!(rt; bits, [(1, 0, [0; 3]), (0, 1, [0; 3])]);
+    let want = [(1, 0, [0; 3]), (0, 1, [0; 3])];
+    same(rt, "the bits of the extended entries", bits, want);
+}
+
+#[test]
+fn sorts_by_type_and_clears_what_is_reserved(rt: HostRuntime) -> Result<(), Fail> {
+    let tables = reserved(rt.alloc())?;
+    same(&rt, "reserved bits are judged", is_canon(&tables), false);
+    let Ok(form) = canon(rt.alloc(), tables) else {
+        panic!(rt; "out of memory");
+    };
+    same(&rt, "the form is canonical", is_canon(&form), true);
+    same(
+        &rt,
+        "the feature bytes",
+        form.pointer.features,
+        [0, 0xC0, 0, 0, 0],
+    );
+    let Body::Listed(table) = &form.body else {
+        panic!(rt; "a listed table stays listed");
+    };
+    same_form(&rt, table);
     Ok(())
 }
 
@@ -156,6 +164,11 @@ fn judges_each_reserved_part(rt: HostRuntime) {
             pointer,
             body: Body::Default(5),
         };
-        assert_eq!(rt; is_canon(&judged), want, "feature byte {at} is {byte}");
+        same(
+            &rt,
+            "a feature byte",
+            (at, byte, is_canon(&judged)),
+            (at, byte, want),
+        );
     }
 }

@@ -1,35 +1,107 @@
 //! Entries spelled out by hand from the figures of MultiProcessor Specification 1.4, chapter 4.
 
+use crate::harness::same;
 use mpt_base::{Fault, Reason};
 use mpt_entries::{
     Base, Bus, Ext, Hierarchy, IntEntry, IoApic, Modifier, Processor, Space, Stop, read_base,
     read_ext,
 };
 use std::alloc::Global;
-use std::test::Fail;
-
-// the fault of the base entries that the bytes are said to be
-fn base_fault(alloc: Global, bytes: &[u8]) -> Option<Stop> {
-    read_base(alloc, bytes, 0, bytes.len()).err()
-}
-
-// the fault of the extended entries that the bytes are said to be
-fn ext_fault(alloc: Global, bytes: &[u8]) -> Option<Stop> {
-    read_ext(alloc, bytes, 0, bytes.len()).err()
-}
+use std::process::Abort;
 
 // the stop at a fault
 fn stop(at: u64, why: Reason) -> Option<Stop> {
     Some(Stop::Fault(Fault { at, why }))
 }
 
+// the base entries in a range of the bytes
+fn same_base(rt: &impl Abort, alloc: Global, bytes: &[u8], from: usize, to: usize, want: &[Base]) {
+    if from > to || to > bytes.len() {
+        panic!(rt; "the range is not in the bytes");
+    }
+    let Ok(entries) = read_base(alloc, bytes, from, to) else {
+        panic!(rt; "not read");
+    };
+    same(rt, "the base entries", entries.as_slice(), want);
+}
+
+// the address space of the row
+fn same_space(rt: &impl Abort, entry: Option<&Ext>) {
+    let Some(Ext::Space(space)) = entry else {
+        panic!(rt; "no address space");
+    };
+    let want = Space {
+        bus: 1,
+        kind: 2,
+        base: 0x0102_0304_0506_0708,
+        length: 0x1000_0000_0002_0000,
+    };
+    same(rt, "the address space", *space, want);
+}
+
+// the bus hierarchy of the row
+fn same_hierarchy(rt: &impl Abort, entry: Option<&Ext>) {
+    let Some(Ext::Hierarchy(hierarchy)) = entry else {
+        panic!(rt; "no bus hierarchy");
+    };
+    let want = Hierarchy {
+        bus: 1,
+        info: 3,
+        parent: 2,
+        reserved: [0xA1, 0xA2, 0xA3],
+    };
+    same(rt, "the bus hierarchy", *hierarchy, want);
+}
+
+// the address modifier of the row
+fn same_modifier(rt: &impl Abort, entry: Option<&Ext>) {
+    let Some(Ext::Modifier(modifier)) = entry else {
+        panic!(rt; "no address modifier");
+    };
+    let want = Modifier {
+        bus: 4,
+        flags: 1,
+        ranges: 0x8000_0001,
+    };
+    same(rt, "the address modifier", *modifier, want);
+}
+
+// an extended entry of a type that the standard does not define
+fn same_opaque(rt: &impl Abort, entry: Option<&Ext>, kind: u8, rest: &[u8]) {
+    let Some(Ext::Opaque(opaque)) = entry else {
+        panic!(rt; "no entry of another type");
+    };
+    same(
+        rt,
+        "an entry of another type",
+        (opaque.kind, opaque.rest.as_slice()),
+        (kind, rest),
+    );
+}
+
+// the fault of the base entries that the bytes are said to be
+fn same_base_fault(rt: &impl Abort, alloc: Global, bytes: &[u8], want: Option<Stop>) {
+    let got = read_base(alloc, bytes, 0, bytes.len()).err();
+    same(rt, "the fault of base entries", (bytes, got), (bytes, want));
+}
+
+// the fault of the extended entries that the bytes are said to be
+fn same_ext_fault(rt: &impl Abort, alloc: Global, bytes: &[u8], want: Option<Stop>) {
+    let got = read_ext(alloc, bytes, 0, bytes.len()).err();
+    same(
+        rt,
+        "the fault of extended entries",
+        (bytes, got),
+        (bytes, want),
+    );
+}
+
 #[test]
-fn reads_one_processor(rt: HostRuntime) -> Result<(), Fail> {
+fn reads_one_processor(rt: HostRuntime) {
     let bytes = [
         0x00, 0x00, 0x10, 0x03, 0x20, 0x05, 0x00, 0x00, 0xBF, 0x01, 0x00, 0x00, 0x00, 0x00, 0x00,
         0x00, 0x00, 0x00, 0x00, 0x00,
     ];
-    let entries = read_base(rt.alloc(), &bytes, 0, 20).ok().ok_or("not read")?;
     let expected = [Base::Processor(Processor {
         apic: 0x00,
         version: 0x10,
@@ -38,12 +110,11 @@ fn reads_one_processor(rt: HostRuntime) -> Result<(), Fail> {
         features: 0x0000_01BF,
         reserved: [0; 8],
     })];
-    assert_eq!(rt; entries.as_slice(), expected.as_slice());
-    Ok(())
+    same_base(&rt, rt.alloc(), &bytes, 0, 20, &expected);
 }
 
 #[test]
-fn reads_each_base_entry_in_a_range(rt: HostRuntime) -> Result<(), Fail> {
+fn reads_each_base_entry_in_a_range(rt: HostRuntime) {
     let bytes = [
         0xEE, 0xEE, 0xEE, // before the range
         0x00, 0x07, 0x14, 0x02, 0x11, 0x22, 0x33, 0x44, 0x55, 0x66, 0x77, 0x88, // a processor
@@ -54,7 +125,6 @@ fn reads_each_base_entry_in_a_range(rt: HostRuntime) -> Result<(), Fail> {
         0x04, 0x03, 0x00, 0x05, 0x01, 0x09, 0xFF, 0x01, // a local interrupt
         0x05, // behind the range
     ];
-    let entries = read_base(rt.alloc(), &bytes, 3, 55).ok().ok_or("not read")?;
     let expected = [
         Base::Processor(Processor {
             apic: 0x07,
@@ -91,39 +161,63 @@ fn reads_each_base_entry_in_a_range(rt: HostRuntime) -> Result<(), Fail> {
             pin: 1,
         }),
     ];
-    assert_eq!(rt; entries.as_slice(), expected.as_slice());
-    Ok(())
+    same_base(&rt, rt.alloc(), &bytes, 3, 55, &expected);
 }
 
 #[test]
 fn tells_the_fault_of_base_entries(rt: HostRuntime) {
-    let cases: [(&[u8], Option<Stop>); 12] = [
-        (&[], None),
-        (&[0x05, 0, 0, 0, 0, 0, 0, 0], stop(0, Reason::UnknownEntry)),
-        (&[0xFF], stop(0, Reason::UnknownEntry)),
-        (&[0x00; 19], stop(0, Reason::CutEntry)),
-        (&[0x00, 0, 0, 0, 0, 0, 0, 0], stop(0, Reason::CutEntry)),
-        (&[0x01, 0, 0, 0, 0, 0, 0], stop(0, Reason::CutEntry)),
-        (&[0x02, 0, 0, 0, 0, 0, 0], stop(0, Reason::CutEntry)),
-        (&[0x03, 0, 0, 0, 0, 0, 0], stop(0, Reason::CutEntry)),
-        (&[0x04], stop(0, Reason::CutEntry)),
-        (
-            &[0x01, 0, 0, 0, 0, 0, 0, 0, 0x80],
-            stop(8, Reason::UnknownEntry),
-        ),
-        (
-            &[0x01, 0, 0, 0, 0, 0, 0, 0, 0x00],
-            stop(8, Reason::CutEntry),
-        ),
-        (&[0x01, 0, 0, 0, 0, 0, 0, 0], None),
-    ];
-    for (bytes, expected) in cases {
-        assert_eq!(rt; base_fault(rt.alloc(), bytes), expected, "for {bytes:?}");
-    }
+    let alloc = rt.alloc();
+    same_base_fault(&rt, alloc, &[], None);
+    same_base_fault(
+        &rt,
+        alloc,
+        &[0x05, 0, 0, 0, 0, 0, 0, 0],
+        stop(0, Reason::UnknownEntry),
+    );
+    same_base_fault(&rt, alloc, &[0xFF], stop(0, Reason::UnknownEntry));
+    same_base_fault(&rt, alloc, &[0x00; 19], stop(0, Reason::CutEntry));
+    same_base_fault(
+        &rt,
+        alloc,
+        &[0x00, 0, 0, 0, 0, 0, 0, 0],
+        stop(0, Reason::CutEntry),
+    );
+    same_base_fault(
+        &rt,
+        alloc,
+        &[0x01, 0, 0, 0, 0, 0, 0],
+        stop(0, Reason::CutEntry),
+    );
+    same_base_fault(
+        &rt,
+        alloc,
+        &[0x02, 0, 0, 0, 0, 0, 0],
+        stop(0, Reason::CutEntry),
+    );
+    same_base_fault(
+        &rt,
+        alloc,
+        &[0x03, 0, 0, 0, 0, 0, 0],
+        stop(0, Reason::CutEntry),
+    );
+    same_base_fault(&rt, alloc, &[0x04], stop(0, Reason::CutEntry));
+    same_base_fault(
+        &rt,
+        alloc,
+        &[0x01, 0, 0, 0, 0, 0, 0, 0, 0x80],
+        stop(8, Reason::UnknownEntry),
+    );
+    same_base_fault(
+        &rt,
+        alloc,
+        &[0x01, 0, 0, 0, 0, 0, 0, 0, 0x00],
+        stop(8, Reason::CutEntry),
+    );
+    same_base_fault(&rt, alloc, &[0x01, 0, 0, 0, 0, 0, 0, 0], None);
 }
 
 #[test]
-fn reads_each_extended_entry_in_a_range(rt: HostRuntime) -> Result<(), Fail> {
+fn reads_each_extended_entry_in_a_range(rt: HostRuntime) {
     let bytes = [
         0x00, // before the range
         0x80, 0x14, 0x01, 0x02, 0x08, 0x07, 0x06, 0x05, 0x04, 0x03, 0x02, 0x01, // an address space
@@ -134,81 +228,67 @@ fn reads_each_extended_entry_in_a_range(rt: HostRuntime) -> Result<(), Fail> {
         0xC5, 0x05, 0x51, 0x52, 0x53, // one with three bytes
         0x00, // behind the range
     ];
-    let entries = read_ext(rt.alloc(), &bytes, 1, 44).ok().ok_or("not read")?;
-    match entries.as_slice() {
-        [
-            Ext::Space(space),
-            Ext::Hierarchy(hierarchy),
-            Ext::Modifier(modifier),
-            Ext::Opaque(short),
-            Ext::Opaque(long),
-        ] => {
-            let expected = Space {
-                bus: 1,
-                kind: 2,
-                base: 0x0102_0304_0506_0708,
-                length: 0x1000_0000_0002_0000,
-            };
-            assert_eq!(rt; *space, expected);
-            let expected = Hierarchy {
-                bus: 1,
-                info: 3,
-                parent: 2,
-                reserved: [0xA1, 0xA2, 0xA3],
-            };
-            assert_eq!(rt; *hierarchy, expected);
-            assert_eq!(rt;
-                *modifier,
-                Modifier {
-                    bus: 4,
-                    flags: 1,
-                    ranges: 0x8000_0001
-                }
-            );
-            assert_eq!(rt; short.kind, 0x83);
-            assert_eq!(rt; short.rest.as_slice(), [].as_slice());
-            assert_eq!(rt; long.kind, 0xC5);
-            assert_eq!(rt; long.rest.as_slice(), [0x51, 0x52, 0x53].as_slice());
-        }
-        _ => assert!(rt; false, "other entries"),
-    }
-    Ok(())
+    let Ok(entries) = read_ext(rt.alloc(), &bytes, 1, 44) else {
+        panic!(rt; "not read");
+    };
+    same(&rt, "how many entries", entries.len(), 5);
+    let found = entries.as_slice();
+    same_space(&rt, found.first());
+    same_hierarchy(&rt, found.get(1));
+    same_modifier(&rt, found.get(2));
+    same_opaque(&rt, found.get(3), 0x83, &[]);
+    same_opaque(&rt, found.get(4), 0xC5, &[0x51, 0x52, 0x53]);
 }
 
 #[test]
-fn reads_the_longest_extended_entry(rt: HostRuntime) -> Result<(), Fail> {
+fn reads_the_longest_extended_entry(rt: HostRuntime) {
     let mut bytes = [0x5A; 255];
     bytes[0] = 0xFF;
     bytes[1] = 0xFF;
-    let entries = read_ext(rt.alloc(), &bytes, 0, 255).ok().ok_or("not read")?;
-    match entries.as_slice() {
-        [Ext::Opaque(opaque)] => assert_eq!(rt; opaque.rest.as_slice(), [0x5A; 253].as_slice()),
-        _ => assert!(rt; false, "other entries"),
-    }
-    Ok(())
+    let Ok(entries) = read_ext(rt.alloc(), &bytes, 0, 255) else {
+        panic!(rt; "not read");
+    };
+    same(&rt, "how many entries", entries.len(), 1);
+    same_opaque(&rt, entries.as_slice().first(), 0xFF, &[0x5A; 253]);
 }
 
 #[test]
 fn tells_the_fault_of_extended_entries(rt: HostRuntime) {
-    let cases: [(&[u8], Option<Stop>); 16] = [
-        (&[], None),
-        (&[0x7F, 8, 0, 0, 0, 0, 0, 0], stop(0, Reason::BadExtType)),
-        (&[0x00], stop(0, Reason::BadExtType)),
-        (&[0x80], stop(0, Reason::CutExtEntry)),
-        (&[0xFF], stop(0, Reason::CutExtEntry)),
-        (&[0x80, 19], stop(1, Reason::BadExtLength)),
-        (&[0x81, 9], stop(1, Reason::BadExtLength)),
-        (&[0x82, 7], stop(1, Reason::BadExtLength)),
-        (&[0x83, 1], stop(1, Reason::BadExtLength)),
-        (&[0x83, 0], stop(1, Reason::BadExtLength)),
-        (&[0x80, 20, 0], stop(0, Reason::CutExtEntry)),
-        (&[0x81, 8, 0, 0, 0, 0, 0], stop(0, Reason::CutExtEntry)),
-        (&[0x82, 8], stop(0, Reason::CutExtEntry)),
-        (&[0x83, 3], stop(0, Reason::CutExtEntry)),
-        (&[0x83, 2, 0x83, 1], stop(3, Reason::BadExtLength)),
-        (&[0x83, 3, 0x41, 0x7F], stop(3, Reason::BadExtType)),
-    ];
-    for (bytes, expected) in cases {
-        assert_eq!(rt; ext_fault(rt.alloc(), bytes), expected, "for {bytes:?}");
-    }
+    let alloc = rt.alloc();
+    same_ext_fault(&rt, alloc, &[], None);
+    same_ext_fault(
+        &rt,
+        alloc,
+        &[0x7F, 8, 0, 0, 0, 0, 0, 0],
+        stop(0, Reason::BadExtType),
+    );
+    same_ext_fault(&rt, alloc, &[0x00], stop(0, Reason::BadExtType));
+    same_ext_fault(&rt, alloc, &[0x80], stop(0, Reason::CutExtEntry));
+    same_ext_fault(&rt, alloc, &[0xFF], stop(0, Reason::CutExtEntry));
+    same_ext_fault(&rt, alloc, &[0x80, 19], stop(1, Reason::BadExtLength));
+    same_ext_fault(&rt, alloc, &[0x81, 9], stop(1, Reason::BadExtLength));
+    same_ext_fault(&rt, alloc, &[0x82, 7], stop(1, Reason::BadExtLength));
+    same_ext_fault(&rt, alloc, &[0x83, 1], stop(1, Reason::BadExtLength));
+    same_ext_fault(&rt, alloc, &[0x83, 0], stop(1, Reason::BadExtLength));
+    same_ext_fault(&rt, alloc, &[0x80, 20, 0], stop(0, Reason::CutExtEntry));
+    same_ext_fault(
+        &rt,
+        alloc,
+        &[0x81, 8, 0, 0, 0, 0, 0],
+        stop(0, Reason::CutExtEntry),
+    );
+    same_ext_fault(&rt, alloc, &[0x82, 8], stop(0, Reason::CutExtEntry));
+    same_ext_fault(&rt, alloc, &[0x83, 3], stop(0, Reason::CutExtEntry));
+    same_ext_fault(
+        &rt,
+        alloc,
+        &[0x83, 2, 0x83, 1],
+        stop(3, Reason::BadExtLength),
+    );
+    same_ext_fault(
+        &rt,
+        alloc,
+        &[0x83, 3, 0x41, 0x7F],
+        stop(3, Reason::BadExtType),
+    );
 }

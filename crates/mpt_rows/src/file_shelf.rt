@@ -1,32 +1,52 @@
 //! The shelf over the files of the operating system, on files that each test writes where it runs.
 
+use crate::harness::{same, same_size};
 use mpt_base::{Failed, FileShelf, Shelf};
 use std::fs;
+use std::process::Abort;
+use std::rt::Files;
 use std::test::Fail;
+
+// what a shelf answers to a read of a file from a place
+fn same_read(
+    rt: &impl Abort,
+    shelf: &mut FileShelf<'_, HostRuntime>,
+    name: &str,
+    at: u64,
+    buf: &mut [u8],
+    want: Result<(), Failed>,
+) {
+    let got = shelf.read_at(name, at, buf);
+    same(rt, name, (at, got), (at, want));
+}
+
+// puts another file in the place of one
+fn replace<R: Files + Abort>(rt: &R, name: &str) {
+    let written = fs::write(rt, "other", b"new");
+    same(rt, "the other file is written", written.is_ok(), true);
+    let renamed = fs::rename(rt, "other", name);
+    same(rt, "and gets the name", renamed.is_ok(), true);
+}
 
 #[test]
 fn files_are_found_by_their_names(rt: HostRuntime) -> Result<(), Fail> {
     fs::write(&rt, "five", b"01234")?;
     fs::write(&rt, "three", b"xyz")?;
     let mut shelf = FileShelf::new(&rt, rt.alloc());
-    for (name, want) in [
-        ("five", Ok(Some(5))),
-        ("three", Ok(Some(3))),
-        ("absent", Ok(None)),
-        ("five", Ok(Some(5))),
-        ("five/below", Err(Failed)),
-        (".", Err(Failed)),
-    ] {
-        assert_eq!(rt; shelf.size(name), want, "the size of {name}");
-    }
+    same_size(&rt, &mut shelf, "five", Ok(Some(5)));
+    same_size(&rt, &mut shelf, "three", Ok(Some(3)));
+    same_size(&rt, &mut shelf, "absent", Ok(None));
+    same_size(&rt, &mut shelf, "five", Ok(Some(5)));
+    same_size(&rt, &mut shelf, "five/below", Err(Failed));
+    same_size(&rt, &mut shelf, ".", Err(Failed));
     let mut buf = [0; 3];
-    assert_eq!(rt; shelf.read_at("three", 0, &mut buf), Ok(()));
-    assert_eq!(rt; buf, *b"xyz");
-    assert_eq!(rt; shelf.read_at("five", 1, &mut buf), Ok(()));
-    assert_eq!(rt; buf, *b"123");
-    assert_eq!(rt; shelf.read_at("five", 3, &mut buf), Err(Failed));
-    assert_eq!(rt; shelf.read_at("five", 6, &mut []), Err(Failed));
-    assert_eq!(rt; shelf.read_at("five", 5, &mut []), Ok(()));
+    same_read(&rt, &mut shelf, "three", 0, &mut buf, Ok(()));
+    same(&rt, "the bytes of three", buf, *b"xyz");
+    same_read(&rt, &mut shelf, "five", 1, &mut buf, Ok(()));
+    same(&rt, "the bytes of five", buf, *b"123");
+    same_read(&rt, &mut shelf, "five", 3, &mut buf, Err(Failed));
+    same_read(&rt, &mut shelf, "five", 6, &mut [], Err(Failed));
+    same_read(&rt, &mut shelf, "five", 5, &mut [], Ok(()));
     Ok(())
 }
 
@@ -34,13 +54,12 @@ fn files_are_found_by_their_names(rt: HostRuntime) -> Result<(), Fail> {
 fn replaced_file_is_not_seen(rt: HostRuntime) -> Result<(), Fail> {
     fs::write(&rt, "kept", b"old bytes")?;
     let mut shelf = FileShelf::new(&rt, rt.alloc());
-    assert_eq!(rt; shelf.size("kept"), Ok(Some(9)));
-    fs::write(&rt, "other", b"new")?;
-    fs::rename(&rt, "other", "kept")?;
-    assert_eq!(rt; shelf.size("kept"), Ok(Some(9)));
+    same_size(&rt, &mut shelf, "kept", Ok(Some(9)));
+    replace(&rt, "kept");
+    same_size(&rt, &mut shelf, "kept", Ok(Some(9)));
     let mut buf = [0; 5];
-    assert_eq!(rt; shelf.read_at("kept", 4, &mut buf), Ok(()));
-    assert_eq!(rt; buf, *b"bytes");
+    same_read(&rt, &mut shelf, "kept", 4, &mut buf, Ok(()));
+    same(&rt, "the bytes from 4 on", buf, *b"bytes");
     Ok(())
 }
 
@@ -49,12 +68,8 @@ fn replaced_file_is_not_seen(rt: HostRuntime) -> Result<(), Fail> {
 fn file_that_tells_no_size_fails(rt: HostRuntime) -> Result<(), Fail> {
     fs::write(&rt, "empty", b"")?;
     let mut shelf = FileShelf::new(&rt, rt.alloc());
-    for (name, want) in [
-        ("empty", Ok(Some(0))),
-        ("/dev/null", Ok(Some(0))),
-        ("/dev/zero", Err(Failed)),
-    ] {
-        assert_eq!(rt; shelf.size(name), want, "the size of {name}");
-    }
+    same_size(&rt, &mut shelf, "empty", Ok(Some(0)));
+    same_size(&rt, &mut shelf, "/dev/null", Ok(Some(0)));
+    same_size(&rt, &mut shelf, "/dev/zero", Err(Failed));
     Ok(())
 }

@@ -1,16 +1,27 @@
 //! What is well formed, and what has a place in an image of 1 MiB, at each bound on both sides.
 
-use crate::tables::{default, listed, lone, usual};
+use crate::harness::same;
+use crate::tables::{default, listed, one_processor, usual};
 use mpt_base::NoMemory;
 use mpt_spec::{Base, Body, Bus, Ext, Opaque, Pointer, Sequence, Tables};
 use mpt_write::{block_bytes, fits, well_formed};
 use std::alloc::{AllocError, Global};
+use std::process::Abort;
 use std::test::Fail;
 
 // a table of one processor, of 64 bytes, at an address
 fn placed(alloc: Global, at: u64, address: u32) -> Result<Tables, AllocError> {
-    let base = Vec::from_array(alloc, [Base::Processor(lone(3, 0))])?;
+    let base = one_processor(alloc)?;
     Ok(listed(at, address, base, Vec::new(alloc)))
+}
+
+// the bytes of the block of well formed tables, and none of others
+fn bytes_of(tables: &Tables) -> Option<u64> {
+    if well_formed(tables) {
+        Some(block_bytes(tables))
+    } else {
+        None
+    }
 }
 
 #[test]
@@ -35,7 +46,12 @@ fn a_block_has_its_place_beside_the_pointer(rt: HostRuntime) -> Result<(), Fail>
         (0xFFFF_FFFF_FFFF_FFF0, 0x600, false),
     ] {
         let tables = placed(rt.alloc(), at, address)?;
-        assert_eq!(rt; fits(&tables), want, "a block at {address} beside {at}");
+        same(
+            &rt,
+            "the pointer's place and the block's",
+            (at, address, fits(&tables)),
+            (at, address, want),
+        );
     }
     Ok(())
 }
@@ -53,9 +69,8 @@ fn a_usual_block_does_not_meet_the_pointer(rt: HostRuntime) {
             panic!(rt; "out of memory");
         };
         let tables = listed(at, 0x000F_0010, base, Vec::new(rt.alloc()));
-        assert_eq!(rt; fits(&tables), want, "the pointer at {at}");
-        assert!(rt; well_formed(&tables));
-        assert_eq!(rt; block_bytes(&tables), 260);
+        same(&rt, "the pointer's place", (at, fits(&tables)), (at, want));
+        same(&rt, "the block", bytes_of(&tables), Some(260));
     }
 }
 
@@ -70,11 +85,20 @@ fn defaults_are_1_to_7_at_any_address(rt: HostRuntime) {
         (5, 0x510, 0x510, true),
     ] {
         let tables = default(number, at, address);
-        assert_eq!(rt; fits(&tables), want, "default {number} at {at}");
+        same(
+            &rt,
+            "a default and the pointer's place",
+            (number, at, fits(&tables)),
+            (number, at, want),
+        );
     }
     let tables = default(5, 0x500, 0);
-    assert!(rt; well_formed(&tables));
-    assert_eq!(rt; block_bytes(&tables), 0);
+    same(&rt, "no block", bytes_of(&tables), Some(0));
+}
+
+// whether tables are well formed
+fn same_form(rt: &impl Abort, name: &str, tables: Tables, want: bool) {
+    same(rt, name, well_formed(&tables), want);
 }
 
 // A revision of 1, a table under the number of a default, and a default without its number.
@@ -82,43 +106,33 @@ fn defaults_are_1_to_7_at_any_address(rt: HostRuntime) {
 fn pointer_and_body_go_with_one_another(rt: HostRuntime) -> Result<(), Fail> {
     let tables = placed(rt.alloc(), 0x600, 0x500)?;
     let pointer = tables.pointer;
-    assert!(rt; well_formed(&tables));
+    same_form(&rt, "a table", tables, true);
     let old = Pointer {
         revision: 1,
         ..pointer
     };
-    assert!(rt;
-        !well_formed(&Tables {
-            pointer: old,
-            ..tables
-        })
-    );
+    let tables = placed(rt.alloc(), 0x600, 0x500)?;
+    same_form(&rt, "an old table", under(old, tables.body), false);
     let numbered = Pointer {
         features: [1, 0, 0, 0, 0],
         ..pointer
     };
     let tables = placed(rt.alloc(), 0x600, 0x500)?;
-    assert!(rt;
-        !well_formed(&Tables {
-            pointer: numbered,
-            ..tables
-        })
-    );
-    assert!(rt;
-        !well_formed(&Tables {
-            at: 0x600,
-            pointer,
-            body: Body::Default(1)
-        })
-    );
-    assert!(rt;
-        well_formed(&Tables {
-            at: 0x600,
-            pointer: numbered,
-            body: Body::Default(1)
-        })
-    );
+    same_form(&rt, "a numbered table", under(numbered, tables.body), false);
+    let unnumbered = under(pointer, Body::Default(1));
+    same_form(&rt, "a default without its number", unnumbered, false);
+    let default = under(numbered, Body::Default(1));
+    same_form(&rt, "a default", default, true);
     Ok(())
+}
+
+// tables with a floating pointer at 600h
+fn under(pointer: Pointer, body: Body) -> Tables {
+    Tables {
+        at: 0x600,
+        pointer,
+        body,
+    }
 }
 
 // that many bus entries, of eight bytes each
@@ -133,21 +147,22 @@ fn buses(alloc: Global, count: usize) -> Result<Vec<Base>, NoMemory> {
     }
 }
 
+// an opaque entry of this type with a rest of that many zeros
+fn opaque(alloc: Global, kind: u8, length: usize) -> Result<Ext, AllocError> {
+    let rest = Vec::from_elem(alloc, 0, length)?;
+    Ok(Ext::Opaque(Opaque {
+        kind,
+        rest: Sequence::new(rest),
+    }))
+}
+
 // opaque entries of 255 bytes, and one with this rest
 fn opaques(alloc: Global, count: usize, last: usize) -> Result<Vec<Ext>, AllocError> {
     let mut out = Vec::new(alloc);
     for _ in 0..count {
-        let rest = Vec::from_elem(alloc, 0, 253)?;
-        out.push(Ext::Opaque(Opaque {
-            kind: 131,
-            rest: Sequence::new(rest),
-        }))?;
+        out.push(opaque(alloc, 131, 253)?)?;
     }
-    let rest = Vec::from_elem(alloc, 0, last)?;
-    out.push(Ext::Opaque(Opaque {
-        kind: 255,
-        rest: Sequence::new(rest),
-    }))?;
+    out.push(opaque(alloc, 255, last)?)?;
     Ok(out)
 }
 
@@ -159,7 +174,12 @@ fn a_base_table_has_at_most_65535_bytes(rt: HostRuntime) {
             panic!(rt; "out of memory");
         };
         let tables = listed(0x500, 0x510, base, Vec::new(rt.alloc()));
-        assert_eq!(rt; fits(&tables), want, "{count} entries");
+        same(
+            &rt,
+            "a number of entries",
+            (count, fits(&tables)),
+            (count, want),
+        );
     }
 }
 
@@ -174,10 +194,11 @@ fn an_extended_part_has_at_most_65535_bytes(rt: HostRuntime) -> Result<(), Fail>
     ] {
         let ext = opaques(rt.alloc(), count, last)?;
         let tables = listed(0x500, 0x510, Vec::new(rt.alloc()), ext);
-        assert_eq!(rt;
-            fits(&tables),
-            want,
-            "{count} entries and one with {last} bytes"
+        same(
+            &rt,
+            "a number of entries, and the bytes of one more",
+            (count, last, fits(&tables)),
+            (count, last, want),
         );
     }
     Ok(())
@@ -193,14 +214,16 @@ fn an_opaque_entry_is_lawful(rt: HostRuntime) -> Result<(), Fail> {
         (255, 253, true),
         (255, 254, false),
     ] {
+        let entry = opaque(rt.alloc(), kind, length)?;
         let mut ext = Vec::new(rt.alloc());
-        let rest = Vec::from_elem(rt.alloc(), 0, length)?;
-        ext.push(Ext::Opaque(Opaque {
-            kind,
-            rest: Sequence::new(rest),
-        }))?;
+        ext.push(entry)?;
         let tables = listed(0x500, 0x510, Vec::new(rt.alloc()), ext);
-        assert_eq!(rt; well_formed(&tables), want, "type {kind}, {length} bytes");
+        same(
+            &rt,
+            "a type, and the bytes of the rest",
+            (kind, length, well_formed(&tables)),
+            (kind, length, want),
+        );
     }
     Ok(())
 }

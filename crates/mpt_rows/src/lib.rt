@@ -12,6 +12,8 @@ mod file_shelf;
 #[cfg(test)]
 mod fitting;
 #[cfg(test)]
+mod harness;
+#[cfg(test)]
 mod listing;
 #[cfg(test)]
 mod outside;

@@ -1,71 +1,50 @@
 //! Listings whose text was written by hand from the format.
 
+use crate::harness::same;
+use crate::tables;
+use crate::tables::{default, listed};
 use mpt_listing::{Part, print, push_line};
 use mpt_spec::{
     Base, Body, Bus, Ext, Hierarchy, IntEntry, IoApic, Modifier, Opaque, Pointer, Processor,
     Sequence, Space, Table, Tables,
 };
-use std::alloc::Global;
+use std::alloc::{AllocError, Global};
+use std::process::Abort;
 use std::test::Fail;
 
-fn printed(alloc: Global, at: u64, pointer: Pointer, body: Body) -> Result<Vec<u8>, Fail> {
-    Ok(print(alloc, &Tables { at, pointer, body })?)
+// the listing of tables
+fn same_listing(rt: &impl Abort, alloc: Global, tables: &Tables, want: &[u8]) {
+    let Ok(text) = print(alloc, tables) else {
+        panic!(rt; "out of memory");
+    };
+    same(rt, "the listing", text.as_slice(), want);
 }
 
 #[test]
 fn one_processor(rt: HostRuntime) -> Result<(), Fail> {
-    let pointer = Pointer {
-        address: 0xF0010,
-        revision: 4,
-        features: [0; 5],
-    };
-    let boot = Processor {
-        apic: 0,
-        version: 0x10,
-        flags: 3,
-        signature: 0x520,
-        features: 0x1BF,
-        reserved: [0; 8],
-    };
-    let table = Table {
-        revision: 4,
-        oem: *b"MPTAB   ",
-        product: *b"BOARD       ",
-        oem_table: 0,
-        oem_size: 0,
-        local_address: 0xFEE00000,
-        reserved: 0,
-        base: Sequence::new(vec![in rt.alloc(); Base::Processor(boot)]?),
-        ext: Sequence::new(Vec::new(rt.alloc())),
-    };
+    let base = tables::one_processor(rt.alloc())?;
+    let described = listed(0xF0000, 0xF0010, base, Vec::new(rt.alloc()));
     let want = b"mptable 1
 pointer at 000F0000 table 000F0010 revision 04 features 0000000000
 header revision 04 oem \"MPTAB   \" product \"BOARD       \" oemtable 00000000 oemsize 0000 local FEE00000 reserved 00
 processor id 00 version 10 flags 03 signature 00000520 features 000001BF reserved 0000000000000000
 end
 ";
-    let text = printed(rt.alloc(), 0xF0000, pointer, Body::Listed(table))?;
-    assert_eq!(rt; text.as_slice(), want.as_slice());
+    same_listing(&rt, rt.alloc(), &described, want);
     Ok(())
 }
 
 #[test]
-fn default_configuration(rt: HostRuntime) -> Result<(), Fail> {
-    let pointer = Pointer {
-        address: 0,
-        revision: 4,
-        features: [5, 0, 0, 0, 0],
-    };
+fn default_configuration(rt: HostRuntime) {
+    let described = default(5, 0x9FC00, 0);
     let want = b"mptable 1
 pointer at 0009FC00 table 00000000 revision 04 features 0500000000
 end
 ";
-    let text = printed(rt.alloc(), 0x9FC00, pointer, Body::Default(5))?;
-    assert_eq!(rt; text.as_slice(), want.as_slice());
-    Ok(())
+    same_listing(&rt, rt.alloc(), &described, want);
 }
 
-fn base_entries(alloc: Global) -> Result<Vec<Base>, Fail> {
+fn base_entries(alloc: Global) -> Result<Vec<Base>, AllocError> {
     let interrupt = IntEntry {
         kind: 3,
         flags: 0x1F0D,
@@ -74,63 +53,68 @@ fn base_entries(alloc: Global) -> Result<Vec<Base>, Fail> {
         dest: 0xFF,
         pin: 0x17,
     };
-    Ok(vec![in alloc;
-        Base::LocalInt(interrupt),
-        Base::Bus(Bus {
-            id: 0,
-            name: *b"PCI   "
-        }),
-        Base::Bus(Bus {
-            id: 0xAB,
-            name: *b"\"\\\x7F\x00 ~"
-        }),
-        Base::IoApic(IoApic {
-            id: 8,
-            version: 0x11,
-            flags: 1,
-            address: 0xFEC01000
-        }),
-        Base::IoInt(interrupt),
-        Base::Processor(Processor {
-            apic: 0x1E,
-            version: 0x14,
-            flags: 0x82,
-            signature: 0xDEADBEEF,
-            features: 0x12345678,
-            reserved: [1, 2, 3, 4, 0xA5, 6, 7, 0xF8],
-        }),
-    ]?)
+    Vec::from_slice(
+        alloc,
+        &[
+            Base::LocalInt(interrupt),
+            Base::Bus(Bus {
+                id: 0,
+                name: *b"PCI   ",
+            }),
+            Base::Bus(Bus {
+                id: 0xAB,
+                name: *b"\"\\\x7F\x00 ~",
+            }),
+            Base::IoApic(IoApic {
+                id: 8,
+                version: 0x11,
+                flags: 1,
+                address: 0xFEC01000,
+            }),
+            Base::IoInt(interrupt),
+            Base::Processor(Processor {
+                apic: 0x1E,
+                version: 0x14,
+                flags: 0x82,
+                signature: 0xDEADBEEF,
+                features: 0x12345678,
+                reserved: [1, 2, 3, 4, 0xA5, 6, 7, 0xF8],
+            }),
+        ],
+    )
 }
 
-fn ext_entries(alloc: Global) -> Result<Vec<Ext>, Fail> {
-    let rest = vec![in alloc; 0x0F, 0xA0, 0x22]?;
-    Ok(vec![in alloc;
-        Ext::Opaque(Opaque {
-            kind: 0x83,
-            rest: Sequence::new(Vec::new(alloc))
-        }),
-        Ext::Space(Space {
-            bus: 1,
-            kind: 2,
-            base: 0xFEDCBA9876543210,
-            length: 0x1000
-        }),
-        Ext::Hierarchy(Hierarchy {
-            bus: 1,
-            info: 1,
-            parent: 0,
-            reserved: [0, 0xC0, 9]
-        }),
-        Ext::Modifier(Modifier {
-            bus: 0,
-            flags: 1,
-            ranges: 0x80000001
-        }),
-        Ext::Opaque(Opaque {
-            kind: 0xFF,
-            rest: Sequence::new(rest)
-        }),
-    ]?)
+// an entry of another type with this rest
+fn opaque(alloc: Global, kind: u8, rest: &[u8]) -> Result<Ext, AllocError> {
+    let rest = Vec::from_slice(alloc, rest)?;
+    Ok(Ext::Opaque(Opaque {
+        kind,
+        rest: Sequence::new(rest),
+    }))
+}
+
+fn ext_entries(alloc: Global) -> Result<Vec<Ext>, AllocError> {
+    let mut out = Vec::new(alloc);
+    out.push(opaque(alloc, 0x83, &[])?)?;
+    out.push(Ext::Space(Space {
+        bus: 1,
+        kind: 2,
+        base: 0xFEDCBA9876543210,
+        length: 0x1000,
+    }))?;
+    out.push(Ext::Hierarchy(Hierarchy {
+        bus: 1,
+        info: 1,
+        parent: 0,
+        reserved: [0, 0xC0, 9],
+    }))?;
+    out.push(Ext::Modifier(Modifier {
+        bus: 0,
+        flags: 1,
+        ranges: 0x80000001,
+    }))?;
+    out.push(opaque(alloc, 0xFF, &[0x0F, 0xA0, 0x22])?)?;
+    Ok(out)
 }
 
 #[test]
@@ -167,8 +151,12 @@ modifier bus 00 flags 01 ranges 80000001
 opaque kind FF rest 0FA022
 end
 ";
-    let text = printed(rt.alloc(), 0xF0000, pointer, Body::Listed(table))?;
-    assert_eq!(rt; text.as_slice(), want.as_slice());
+    let described = Tables {
+        at: 0xF0000,
+        pointer,
+        body: Body::Listed(table),
+    };
+    same_listing(&rt, rt.alloc(), &described, want);
     Ok(())
 }
 
@@ -187,6 +175,6 @@ fn line_of_parts(rt: HostRuntime) -> Result<(), Fail> {
         &[Part::Decimal(0), Part::Text(b" "), Part::Decimal(u64::MAX)],
     )?;
     let want = b"fault 16 at 000F0050\n0 18446744073709551615\n";
-    assert_eq!(rt; out.as_slice(), want.as_slice());
+    same(&rt, "the lines", out.as_slice(), want.as_slice());
     Ok(())
 }

@@ -3,40 +3,50 @@
 
 ghost use Rattle.std.specs.Prelude.{◌≤◌, length, IfOk};
 
+use crate::harness::{same, same_size};
 use mpt_base::{Failed, MemShelf, MemSink, OutSink, Shelf, Sink};
 use std::cell::Cell;
 use std::fmt::Display;
 use std::io;
 use std::io::ErrorKind;
+use std::process::Abort;
+
+// puts a file on a shelf
+fn add(rt: &impl Abort, shelf: &mut MemShelf, name: &str, bytes: &[u8]) {
+    let added = shelf.add(name, bytes);
+    same(rt, "a file is added", added, Ok(()));
+}
 
 #[test]
 fn shelf_fails_where_it_was_told(rt: HostRuntime) {
     let mut shelf = MemShelf::new(rt.alloc());
-    assert_eq!(rt; shelf.add("a", b"old"), Ok(()));
-    assert_eq!(rt; shelf.add("a", b"01234"), Ok(()));
-    assert_eq!(rt; shelf.fail(2), Ok(()));
-    for (name, want) in [
-        ("a", Ok(Some(5))),
-        ("a", Err(Failed)),
-        ("b", Ok(None)),
-        ("a", Ok(Some(5))),
-    ] {
-        assert_eq!(rt; shelf.size(name), want, "the size of {name}");
-    }
-    assert_eq!(rt; shelf.asked_bytes(), 0);
+    add(&rt, &mut shelf, "a", b"old");
+    add(&rt, &mut shelf, "a", b"01234");
+    same(&rt, "adds a failing call", shelf.fail(2), Ok(()));
+    same_size(&rt, &mut shelf, "a", Ok(Some(5)));
+    same_size(&rt, &mut shelf, "a", Err(Failed));
+    same_size(&rt, &mut shelf, "b", Ok(None));
+    same_size(&rt, &mut shelf, "a", Ok(Some(5)));
+    same(&rt, "no byte was asked for", shelf.asked_bytes(), 0);
 }
 
 #[test]
 fn shelf_reads_from_a_place(rt: HostRuntime) {
     let mut shelf = MemShelf::new(rt.alloc());
-    assert_eq!(rt; shelf.add("a", b"01234"), Ok(()));
+    add(&rt, &mut shelf, "a", b"01234");
     let Ok(Some(5)) = shelf.size("a") else {
         panic!(rt; "no file of 5 bytes");
     };
     let mut buf = [0; 3];
-    assert_eq!(rt; shelf.read_at("a", 1, &mut buf), Ok(()));
-    assert_eq!(rt; buf, *b"123");
-    assert_eq!(rt; shelf.asked_bytes(), 3);
+    let read = shelf.read_at("a", 1, &mut buf);
+    same(&rt, "reads the file", read, Ok(()));
+    same(&rt, "the bytes from 1 on", buf, *b"123");
+    same(&rt, "3 bytes were asked for", shelf.asked_bytes(), 3);
+}
+
+// what a sink answers to a piece
+fn same_put(rt: &impl Abort, sink: &mut MemSink, piece: &str, want: Result<(), Failed>) {
+    same(rt, piece, sink.put(piece.as_bytes()), want);
 }
 
 #[test]
@@ -44,18 +54,14 @@ fn sink_ends_at_its_room(rt: HostRuntime) {
     let Ok(mut sink) = MemSink::new(rt.alloc(), 5) else {
         panic!(rt; "out of memory");
     };
-    assert_eq!(rt; sink.fail(2), Ok(()));
-    for (piece, want) in [
-        ("abc", Ok(())),
-        ("d", Err(Failed)),
-        ("def", Err(Failed)),
-        ("", Ok(())),
-        ("de", Ok(())),
-        ("f", Err(Failed)),
-    ] {
-        assert_eq!(rt; sink.put(piece.as_bytes()), want, "the piece {piece}");
-    }
-    assert_eq!(rt; sink.bytes(), b"abcde".as_slice());
+    same(&rt, "adds a failing call", sink.fail(2), Ok(()));
+    same_put(&rt, &mut sink, "abc", Ok(()));
+    same_put(&rt, &mut sink, "d", Err(Failed));
+    same_put(&rt, &mut sink, "def", Err(Failed));
+    same_put(&rt, &mut sink, "", Ok(()));
+    same_put(&rt, &mut sink, "de", Ok(()));
+    same_put(&rt, &mut sink, "f", Err(Failed));
+    same(&rt, "what was written", sink.bytes(), b"abcde".as_slice());
 }
 
 /// A standard output on which signals interrupt the next writes; each later one takes at most 2 bytes.
@@ -100,7 +106,12 @@ fn interrupted_writes_are_tried_again(rt: HostRuntime) {
             taken: Cell::new(0),
         };
         let mut sink = OutSink::new(&out, rt.alloc());
-        assert_eq!(rt; sink.put(b"abcde"), want, "{interrupts} interrupts");
-        assert_eq!(rt; out.taken.get(), bytes, "{interrupts} interrupts");
+        let put = sink.put(b"abcde");
+        same(
+            &rt,
+            "a number of interrupts",
+            (interrupts, put, out.taken.get()),
+            (interrupts, want, bytes),
+        );
     }
 }

@@ -1,10 +1,10 @@
 //! A floating pointer spelled out by hand from MultiProcessor Specification 1.4, figure 4-2, and the
 //! search for it.
 
-ghost use Rattle.std.specs.Prelude.{◌≡◌, IfOk, length};
-
+use crate::harness::{put, same};
 use mpt_pointer::{Area, Pointer, areas, find, read_pointer};
 use std::alloc::{AllocError, Global};
+use std::process::Abort;
 use std::test::Fail;
 
 /// A floating pointer that names a table at F0010h.
@@ -13,9 +13,7 @@ const BYTES: [u8; 16] = [
 ];
 
 /// An image of zeros.
-pub(crate) fn zeros(alloc: Global, len: usize) -> Result<Vec<u8>, AllocError>
-    ensures { IfOk result (λ image. length image.items ≡ len) }
-{
+pub(crate) fn zeros(alloc: Global, len: usize) -> Result<Vec<u8>, AllocError> {
     vec![in alloc; 0; len]
 }
 
@@ -26,7 +24,7 @@ fn reads_a_floating_pointer(rt: HostRuntime) {
         revision: 4,
         features: [0; 5],
     };
-    assert_eq!(rt; read_pointer(&BYTES), Some(expected));
+    same(&rt, "the pointer", read_pointer(&BYTES), Some(expected));
 }
 
 #[test]
@@ -34,8 +32,19 @@ fn refuses_a_wrong_signature_length_or_checksum(rt: HostRuntime) {
     for (at, byte) in [(0, 0x2D), (8, 0x02), (9, 0x05), (10, 0x80)] {
         let mut bytes = BYTES;
         bytes[at] = byte;
-        assert_eq!(rt; read_pointer(&bytes), None, "with another byte {at}");
+        same(
+            &rt,
+            "the place of another byte",
+            (at, read_pointer(&bytes)),
+            (at, None),
+        );
     }
+}
+
+// the areas for a segment of the EBDA, a size of the base memory in KiB and a size of the image
+fn same_areas(rt: &impl Abort, ebda: u16, base_kib: u16, size: u64, want: &[Area]) {
+    let found = areas(ebda, base_kib, size);
+    same(rt, "the areas", found.as_slice(), want);
 }
 
 #[test]
@@ -52,15 +61,9 @@ fn looks_in_one_area_beside_the_bios(rt: HostRuntime) {
         from: 1000,
         to: 1000,
     };
-    assert_eq!(rt;
-        areas(0x9FC0, 0, 0x10_0000).as_slice(),
-        [kilobyte, bios].as_slice()
-    );
-    assert_eq!(rt;
-        areas(0, 0x280, 0x10_0000).as_slice(),
-        [kilobyte, bios].as_slice()
-    );
-    assert_eq!(rt; areas(0, 0, 1000).as_slice(), [end].as_slice());
+    same_areas(&rt, 0x9FC0, 0, 0x10_0000, &[kilobyte, bios]);
+    same_areas(&rt, 0, 0x280, 0x10_0000, &[kilobyte, bios]);
+    same_areas(&rt, 0, 0, 1000, &[end]);
 }
 
 // The EBDA is at 500h. A pointer whose checksum is wrong is passed over, and none is found between the
@@ -68,14 +71,15 @@ fn looks_in_one_area_beside_the_bios(rt: HostRuntime) {
 #[test]
 fn finds_the_first_of_the_search(rt: HostRuntime) -> Result<(), Fail> {
     let mut image = zeros(rt.alloc(), 1360)?;
-    image[0x40E] = 0x50;
-    assert_eq!(rt; find(image.as_slice()), None);
-    image[0x508..0x518].copy_from_slice(&BYTES);
-    assert_eq!(rt; find(image.as_slice()), None);
-    image[0x520..0x530].copy_from_slice(&BYTES);
-    image[0x540..0x550].copy_from_slice(&BYTES);
-    assert_eq!(rt; find(image.as_slice()), Some(0x520));
-    image[0x52A] = 0x80;
-    assert_eq!(rt; find(image.as_slice()), Some(0x540));
+    let image = image.as_mut_slice();
+    put(image, 0x40E, &[0x50]);
+    same(&rt, "no pointer", find(image), None);
+    put(image, 0x508, &BYTES);
+    same(&rt, "none at a multiple of 16", find(image), None);
+    put(image, 0x520, &BYTES);
+    put(image, 0x540, &BYTES);
+    same(&rt, "the first of two", find(image), Some(0x520));
+    put(image, 0x52A, &[0x80]);
+    same(&rt, "the first is wrong", find(image), Some(0x540));
     Ok(())
 }

@@ -1,14 +1,14 @@
 //! A small image spelled out by hand from MultiProcessor Specification 1.4, figures 4-2 to 4-4: what it
 //! describes, and the faults of a few bytes.
 
-ghost use Rattle.std.specs.Prelude.{◌≡◌, ◌+◌, ◌*◌, IfOk, length};
-
+use crate::harness::{put, same};
 use crate::pointer::zeros;
 use crate::tables::{ONE_PROCESSOR, lone};
 use mpt_base::{Fault, Reason};
-use mpt_spec::Base;
+use mpt_spec::{Base, Table};
 use mpt_table::{Body, Pointer, Refusal, read};
 use std::alloc::{AllocError, Global};
+use std::process::Abort;
 use std::test::Fail;
 
 /// A floating pointer that names the table at 510h.
@@ -17,65 +17,92 @@ const POINTER: [u8; 16] = [
 ];
 
 // an image of 1,360 bytes: the EBDA at 500h, the floating pointer there, a table of these bytes behind it
-fn small_image(alloc: Global, table: &[u8; 64]) -> Result<Vec<u8>, AllocError>
-    ensures { IfOk result (λ image. length image.items ≡ 1360) }
-{
+fn small_image(alloc: Global, table: &[u8]) -> Result<Vec<u8>, AllocError> {
     let mut image = zeros(alloc, 1360)?;
-    image[0x40E] = 0x50;
-    image[0x500..0x510].copy_from_slice(&POINTER);
-    image[0x510..0x550].copy_from_slice(table);
+    let bytes = image.as_mut_slice();
+    put(bytes, 0x40E, &[0x50]);
+    put(bytes, 0x500, &POINTER);
+    put(bytes, 0x510, table);
     Ok(image)
+}
+
+// what the table of one processor says
+fn same_table(rt: &impl Abort, table: &Table) {
+    same(rt, "the revision", table.revision, 4);
+    same(rt, "the OEM id", table.oem, *b"MPTAB   ");
+    same(rt, "the product id", table.product, *b"BOARD       ");
+    same(rt, "the OEM table", table.oem_table, 0);
+    same(rt, "its size", table.oem_size, 0);
+    same(rt, "the local APICs", table.local_address, 0xFEE0_0000);
+    same(rt, "the reserved byte", table.reserved, 0);
+    same(
+        rt,
+        "the base entries",
+        table.base.as_slice(),
+        [Base::Processor(lone(3, 0))].as_slice(),
+    );
+    same(
+        rt,
+        "no extended entry",
+        table.ext.as_slice().is_empty(),
+        true,
+    );
 }
 
 #[test]
 fn describes_a_table_of_one_processor(rt: HostRuntime) -> Result<(), Fail> {
     let image = small_image(rt.alloc(), &ONE_PROCESSOR)?;
-    let tables = read(rt.alloc(), image.as_slice()).ok().ok_or("refused")?;
-    assert_eq!(rt; tables.at, 0x500);
+    let Ok(tables) = read(rt.alloc(), image.as_slice()) else {
+        panic!(rt; "refused");
+    };
+    same(&rt, "the place of the pointer", tables.at, 0x500);
     let pointer = Pointer {
         address: 0x510,
         revision: 4,
         features: [0; 5],
     };
-    assert_eq!(rt; tables.pointer, pointer);
-    let Body::Listed(table) = tables.body else {
-        return Err("a default configuration".into());
+    same(&rt, "the pointer", tables.pointer, pointer);
+    let Body::Listed(table) = &tables.body else {
+        panic!(rt; "a default configuration");
     };
-    assert_eq!(rt; table.revision, 4);
-    assert_eq!(rt; table.oem, *b"MPTAB   ");
-    assert_eq!(rt; table.product, *b"BOARD       ");
-    assert_eq!(rt; table.oem_table, 0);
-    assert_eq!(rt; table.oem_size, 0);
-    assert_eq!(rt; table.local_address, 0xFEE0_0000);
-    assert_eq!(rt; table.reserved, 0);
-    assert_eq!(rt;
-        table.base.as_slice(),
-        [Base::Processor(lone(3, 0))].as_slice()
-    );
-    assert!(rt; table.ext.as_slice().is_empty());
+    same_table(&rt, table);
     Ok(())
+}
+
+// what is wrong with an image
+fn same_refusal(rt: &impl Abort, alloc: Global, image: &[u8], want: Refusal) {
+    let refusal = read(alloc, image).err();
+    same(rt, "the refusal", refusal, Some(want));
+}
+
+// the first fault of the table of one processor with other bytes at these offsets
+fn same_fault(rt: &impl Abort, alloc: Global, changes: &[(usize, u8)], at: u64, why: Reason) {
+    let Ok(mut image) = small_image(alloc, &ONE_PROCESSOR) else {
+        panic!(rt; "out of memory");
+    };
+    for (offset, byte) in changes {
+        let place = offset.saturating_add(0x510);
+        put(image.as_mut_slice(), place, &[*byte]);
+    }
+    let want = Refusal::Fault(Fault { at, why });
+    same_refusal(rt, alloc, image.as_slice(), want);
 }
 
 // Each row changes some bytes of the table. The reason is that of the first fault, by its offset.
 #[test]
-fn tells_the_first_fault(rt: HostRuntime) -> Result<(), Fail> {
-    let rows: [(&[(usize, u8)], u64, Reason); 6] = [
-        (&[(0, 0x00)], 0x510, Reason::BadSignature),
-        (&[(4, 43), (6, 2)], 0x514, Reason::ShortLength),
-        (&[(6, 2), (7, 0x00)], 0x516, Reason::BadRevision),
-        (&[(7, 0x9A)], 0x517, Reason::BadSum),
-        (&[(34, 2), (7, 0x98)], 0x532, Reason::BadCount),
-        (&[(44, 5), (7, 0x94)], 0x53C, Reason::UnknownEntry),
-    ];
-    for (changes, at, why) in rows {
-        let mut table = ONE_PROCESSOR;
-        for (offset, byte) in changes {
-            table[offset % 64] = *byte;
-        }
-        let image = small_image(rt.alloc(), &table)?;
-        let refusal = read(rt.alloc(), image.as_slice()).err();
-        assert_eq!(rt; refusal, Some(Refusal::Fault(Fault { at, why })));
-    }
-    assert_eq!(rt; read(rt.alloc(), &[0; 64]).err(), Some(Refusal::NoPointer));
-    Ok(())
+fn tells_the_first_fault(rt: HostRuntime) {
+    let alloc = rt.alloc();
+    same_fault(&rt, alloc, &[(0, 0x00)], 0x510, Reason::BadSignature);
+    same_fault(&rt, alloc, &[(4, 43), (6, 2)], 0x514, Reason::ShortLength);
+    same_fault(&rt, alloc, &[(6, 2), (7, 0x00)], 0x516, Reason::BadRevision);
+    same_fault(&rt, alloc, &[(7, 0x9A)], 0x517, Reason::BadSum);
+    same_fault(&rt, alloc, &[(34, 2), (7, 0x98)], 0x532, Reason::BadCount);
+    same_fault(
+        &rt,
+        alloc,
+        &[(44, 5), (7, 0x94)],
+        0x53C,
+        Reason::UnknownEntry,
+    );
+    same_refusal(&rt, alloc, &[0; 64], Refusal::NoPointer);
 }

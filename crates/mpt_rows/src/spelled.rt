@@ -1,11 +1,13 @@
 //! Numbers, floating pointers and entries by their bytes, spelled out by hand from MultiProcessor
 //! Specification 1.4, figures 4-2 and 4-4 to 4-11.
 
+use crate::harness::same;
 use crate::tables::lone;
-use mpt_base::{append, checksum8, put_bytes, put_u16, put_u32, put_u64, seal8};
+use mpt_base::{NoMemory, append, checksum8, put_bytes, put_u16, put_u32, put_u64, seal8};
 use mpt_entries::{write_base, write_ext};
 use mpt_pointer::{Pointer, read_pointer, write_pointer};
 use mpt_spec::{Base, Bus, Ext, Hierarchy, IntEntry, IoApic, Modifier, Opaque, Sequence, Space};
+use std::alloc::Global;
 
 #[test]
 fn puts_numbers_low_byte_first(rt: HostRuntime) {
@@ -14,9 +16,11 @@ fn puts_numbers_low_byte_first(rt: HostRuntime) {
     put_u32(&mut bytes, 3, 0x89AB_CDEF);
     put_u64(&mut bytes, 7, 0x0123_4567_89AB_CDEF);
     put_bytes(&mut bytes, 16, b"!");
-    assert_eq!(rt;
+    same(
+        &rt,
+        "the numbers",
         bytes,
-        *b"\xAA\x34\x12\xEF\xCD\xAB\x89\xEF\xCD\xAB\x89\x67\x45\x23\x01\xAA!\xAA"
+        *b"\xAA\x34\x12\xEF\xCD\xAB\x89\xEF\xCD\xAB\x89\x67\x45\x23\x01\xAA!\xAA",
     );
 }
 
@@ -24,9 +28,10 @@ fn puts_numbers_low_byte_first(rt: HostRuntime) {
 fn seals_a_sum(rt: HostRuntime) {
     let mut bytes = *b"_MP_\x10\x00\x0F\x00\x01\x04\xFF\0\0\0\0\0";
     seal8(&mut bytes, 10);
-    assert_eq!(rt; bytes, *b"_MP_\x10\x00\x0F\x00\x01\x04\x81\0\0\0\0\0");
-    assert_eq!(rt; checksum8(b"\xC8\x02"), 0x36);
-    assert_eq!(rt; checksum8(b"\x80\x80"), 0);
+    let want = *b"_MP_\x10\x00\x0F\x00\x01\x04\x81\0\0\0\0\0";
+    same(&rt, "the sealed pointer", bytes, want);
+    same(&rt, "a checksum", checksum8(b"\xC8\x02"), 0x36);
+    same(&rt, "a sum that overflows", checksum8(b"\x80\x80"), 0);
 }
 
 #[test]
@@ -58,13 +63,38 @@ fn writes_floating_pointers(rt: HostRuntime) {
             revision: 4,
             features: [feature, 0, 0, 0, 0],
         };
-        assert_eq!(rt; write_pointer(&pointer), *bytes, "the pointer to {address}");
-        assert_eq!(rt;
+        same(
+            &rt,
+            "the bytes of a pointer",
+            write_pointer(&pointer),
+            *bytes,
+        );
+        same(
+            &rt,
+            "the pointer of the bytes",
             read_pointer(bytes),
             Some(pointer),
-            "the pointer to {address}"
         );
     }
+}
+
+// pieces behind one another
+fn joined(alloc: Global, pieces: &[&[u8]]) -> Result<Vec<u8>, NoMemory> {
+    let mut out = Vec::new(alloc);
+    for piece in pieces {
+        append(&mut out, piece)?;
+    }
+    Ok(out)
+}
+
+// a question mark, and the bytes of base entries behind it
+fn written_base(alloc: Global, entries: &[Base]) -> Result<Vec<u8>, NoMemory> {
+    let mut out = Vec::new(alloc);
+    append(&mut out, b"?")?;
+    for entry in entries {
+        write_base(&mut out, entry)?;
+    }
+    Ok(out)
 }
 
 #[test]
@@ -77,9 +107,7 @@ fn writes_base_entries_behind_one_another(rt: HostRuntime) {
         dest: 0xFF,
         pin: 16,
     };
-    let mut out = Vec::new(rt.alloc());
-    assert_eq!(rt; append(&mut out, b"?"), Ok(()));
-    for entry in [
+    let entries = [
         Base::Processor(lone(3, 7)),
         Base::Bus(Bus {
             id: 7,
@@ -93,58 +121,67 @@ fn writes_base_entries_behind_one_another(rt: HostRuntime) {
         }),
         Base::IoInt(interrupt),
         Base::LocalInt(interrupt),
-    ] {
-        assert_eq!(rt; write_base(&mut out, &entry), Ok(()));
-    }
-    let mut expected = Vec::new(rt.alloc());
-    for piece in [
+    ];
+    let pieces = [
         b"?\x00\x00\x10\x03\x20\x05\x00\x00\xBF\x01\x00\x00\x07\x07\x07\x07\x07\x07\x07\x07".as_slice(),
         b"\x01\x07ISA   ".as_slice(),
         b"\x02\x02\x11\x01\x00\x10\xC0\xFE".as_slice(),
         b"\x03\x01\x05\x0F\x02\x20\xFF\x10".as_slice(),
         b"\x04\x01\x05\x0F\x02\x20\xFF\x10".as_slice(),
-    ] {
-        assert_eq!(rt; append(&mut expected, piece), Ok(()));
-    }
-    assert_eq!(rt; out.as_slice(), expected.as_slice());
+    ];
+    let Ok(out) = written_base(rt.alloc(), &entries) else {
+        panic!(rt; "out of memory");
+    };
+    let Ok(expected) = joined(rt.alloc(), &pieces) else {
+        panic!(rt; "out of memory");
+    };
+    same(&rt, "the bytes", out.as_slice(), expected.as_slice());
 }
 
-#[test]
-fn writes_extended_entries_behind_one_another(rt: HostRuntime) {
+// the bytes of an extended entry of each kind
+fn written_ext(alloc: Global) -> Result<Vec<u8>, NoMemory> {
+    let mut out = Vec::new(alloc);
     let space = Ext::Space(Space {
         bus: 0,
         kind: 1,
         base: 0xFEC0_0000,
         length: 0x0001_0000_1000,
     });
+    write_ext(&mut out, &space)?;
     let hierarchy = Ext::Hierarchy(Hierarchy {
         bus: 7,
         info: 1,
         parent: 3,
         reserved: [9; 3],
     });
+    write_ext(&mut out, &hierarchy)?;
     let modifier = Ext::Modifier(Modifier {
         bus: 4,
         flags: 1,
         ranges: 0x0102_0304,
     });
+    write_ext(&mut out, &modifier)?;
     let opaque = Ext::Opaque(Opaque {
         kind: 0xC8,
-        rest: Sequence::new(Vec::new(rt.alloc())),
+        rest: Sequence::new(Vec::new(alloc)),
     });
-    let mut out = Vec::new(rt.alloc());
-    assert_eq!(rt; write_ext(&mut out, &space), Ok(()));
-    assert_eq!(rt; write_ext(&mut out, &hierarchy), Ok(()));
-    assert_eq!(rt; write_ext(&mut out, &modifier), Ok(()));
-    assert_eq!(rt; write_ext(&mut out, &opaque), Ok(()));
-    let mut expected = Vec::new(rt.alloc());
-    for piece in [
+    write_ext(&mut out, &opaque)?;
+    Ok(out)
+}
+
+#[test]
+fn writes_extended_entries_behind_one_another(rt: HostRuntime) {
+    let pieces = [
         b"\x80\x14\x00\x01\x00\x00\xC0\xFE\x00\x00\x00\x00\x00\x10\x00\x00\x01\x00\x00\x00".as_slice(),
         b"\x81\x08\x07\x01\x03\x09\x09\x09".as_slice(),
         b"\x82\x08\x04\x01\x04\x03\x02\x01".as_slice(),
         b"\xC8\x02".as_slice(),
-    ] {
-        assert_eq!(rt; append(&mut expected, piece), Ok(()));
-    }
-    assert_eq!(rt; out.as_slice(), expected.as_slice());
+    ];
+    let Ok(out) = written_ext(rt.alloc()) else {
+        panic!(rt; "out of memory");
+    };
+    let Ok(expected) = joined(rt.alloc(), &pieces) else {
+        panic!(rt; "out of memory");
+    };
+    same(&rt, "the bytes", out.as_slice(), expected.as_slice());
 }

@@ -4,7 +4,7 @@ use mpt_base::NoMemory;
 use mpt_spec::{
     Base, Body, Bus, Ext, IntEntry, IoApic, Pointer, Processor, Sequence, Table, Tables,
 };
-use std::alloc::Global;
+use std::alloc::{AllocError, Global};
 
 /// The table of one processor, byte by byte.
 pub(crate) const ONE_PROCESSOR: [u8; 64] = [
@@ -24,6 +24,13 @@ pub(crate) fn lone(flags: u8, reserved: u8) -> Processor {
         features: 0x1BF,
         reserved: [reserved; 8],
     }
+}
+
+/// The base entries of that table.
+pub(crate) fn one_processor(alloc: Global) -> Result<Vec<Base>, AllocError> {
+    let mut base = Vec::new(alloc);
+    base.push(Base::Processor(lone(3, 0)))?;
+    Ok(base)
 }
 
 /// Tables with a floating pointer at a place that names a table at an address.
@@ -123,7 +130,7 @@ pub(crate) fn usual(alloc: Global) -> Result<Vec<Base>, NoMemory> {
         Base::LocalInt(wire(3, 1, 0, 0, 0)),
         Base::LocalInt(wire(1, 1, 0, 0xFF, 1)),
     ];
-    match Vec::from_array(alloc, entries) {
+    match Vec::from_slice(alloc, &entries) {
         Ok(entries) => Ok(entries),
         Err(_) => Err(NoMemory),
     }

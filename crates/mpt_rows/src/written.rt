@@ -1,146 +1,199 @@
 //! Blocks and images that are written, and read again.
 
-use crate::tables::{ONE_PROCESSOR, default, listed, lone, usual};
+use crate::harness::{put, same};
+use crate::tables::{ONE_PROCESSOR, default, listed, one_processor, usual};
 use mpt_base::{NoMemory, sum8};
-use mpt_spec::{Base, Ext, Opaque, Sequence, Tables};
+use mpt_spec::{Ext, Opaque, Sequence, Tables};
 use mpt_table::read;
 use mpt_write::{fits, well_formed, write_block, write_image};
-use std::alloc::Global;
+use std::alloc::{AllocError, Global};
+use std::process::Abort;
 use std::test::Fail;
 
 // the block of well formed tables, and none of others
-fn block_of(alloc: Global, tables: &Tables) -> Option<Result<Vec<u8>, NoMemory>> {
+fn block_of(alloc: Global, tables: &Tables) -> Option<Vec<u8>> {
     if well_formed(tables) {
-        Some(write_block(alloc, tables))
+        write_block(alloc, tables).ok()
     } else {
         None
     }
 }
 
 // the image of tables that fit, and none of others
-fn image_of(alloc: Global, tables: &Tables) -> Option<Result<Vec<u8>, NoMemory>> {
+fn image_of(alloc: Global, tables: &Tables) -> Option<Vec<u8>> {
     if fits(tables) {
-        Some(write_image(alloc, tables))
+        write_image(alloc, tables).ok()
     } else {
         None
     }
 }
 
-#[test]
-fn writes_a_table_of_one_processor(rt: HostRuntime) -> Result<(), Fail> {
-    let base = Vec::from_array(rt.alloc(), [Base::Processor(lone(3, 0))])?;
-    let tables = listed(0xF_0000, 0x000F_0010, base, Vec::new(rt.alloc()));
-    let Some(Ok(block)) = block_of(rt.alloc(), &tables) else {
+// how many of the bytes are not 0
+fn used(bytes: &[u8]) -> usize {
+    let mut count = 0usize;
+    for byte in bytes {
+        if *byte != 0 {
+            count = count.saturating_add(1);
+        }
+    }
+    count
+}
+
+// how many bytes of a part of an image are not 0
+fn same_used(rt: &impl Abort, part: Option<&[u8]>, want: usize) {
+    let Some(bytes) = part else {
+        panic!(rt; "the image has no such part");
+    };
+    same(rt, "the bytes that are not 0", used(bytes), want);
+}
+
+// the bytes of a part of a block or an image
+fn same_part(rt: &impl Abort, name: &str, part: Option<&[u8]>, want: &[u8]) {
+    let Some(bytes) = part else {
+        panic!(rt; "there is no such part");
+    };
+    same(rt, name, bytes, want);
+}
+
+// the block that is written of tables
+fn same_block(rt: &impl Abort, alloc: Global, tables: &Tables, want: &[u8]) {
+    let Some(block) = block_of(alloc, tables) else {
         panic!(rt; "no block");
     };
-    assert_eq!(rt; block.as_slice(), ONE_PROCESSOR.as_slice());
+    same(rt, "the block", block.as_slice(), want);
+}
+
+// a table of one processor, with one extended entry of another type that has nothing behind its length
+// byte
+fn opaque_tables(alloc: Global) -> Result<Tables, AllocError> {
+    let mut ext = Vec::new(alloc);
+    ext.push(Ext::Opaque(Opaque {
+        kind: 0xC8,
+        rest: Sequence::new(Vec::new(alloc)),
+    }))?;
+    let base = one_processor(alloc)?;
+    Ok(listed(0xF_0000, 0x000F_0010, base, ext))
+}
+
+// their bytes: the extended length is 2, the extended checksum 36h and the checksum 61h
+fn opaque_block(alloc: Global) -> Result<Vec<u8>, AllocError> {
+    let mut block = Vec::from_slice(alloc, &ONE_PROCESSOR)?;
+    block.extend_from_slice(b"\xC8\x02")?;
+    let bytes = block.as_mut_slice();
+    put(bytes, 7, &[0x61]);
+    put(bytes, 40, &[2]);
+    put(bytes, 42, &[0x36]);
+    Ok(block)
+}
+
+// a usual board, with its floating pointer at F0000h and the table behind it
+fn usual_tables(alloc: Global) -> Result<Tables, NoMemory> {
+    let base = usual(alloc)?;
+    Ok(listed(0xF_0000, 0x000F_0010, base, Vec::new(alloc)))
+}
+
+#[test]
+fn writes_a_table_of_one_processor(rt: HostRuntime) -> Result<(), Fail> {
+    let base = one_processor(rt.alloc())?;
+    let tables = listed(0xF_0000, 0x000F_0010, base, Vec::new(rt.alloc()));
+    same_block(&rt, rt.alloc(), &tables, &ONE_PROCESSOR);
     Ok(())
 }
 
-// The extended length is 2, the extended checksum 36h and the checksum 61h.
+// the block that is written of those tables
+fn same_opaque_block(rt: &impl Abort, alloc: Global, want: &[u8]) {
+    let Ok(tables) = opaque_tables(alloc) else {
+        panic!(rt; "out of memory");
+    };
+    same_block(rt, alloc, &tables, want);
+}
+
 #[test]
 fn writes_an_opaque_entry_behind_the_base_table(rt: HostRuntime) -> Result<(), Fail> {
-    let base = Vec::from_array(rt.alloc(), [Base::Processor(lone(3, 0))])?;
-    let mut ext = Vec::new(rt.alloc());
-    ext.push(Ext::Opaque(Opaque {
-        kind: 0xC8,
-        rest: Sequence::new(Vec::new(rt.alloc())),
-    }))?;
-    let tables = listed(0xF_0000, 0x000F_0010, base, ext);
-    let mut expected = Vec::from_slice(rt.alloc(), &ONE_PROCESSOR)?;
-    expected.extend_from_slice(b"\xC8\x02")?;
-    let table = expected.as_mut_slice();
-    for (at, byte) in [(7, 0x61), (40, 2), (42, 0x36)] {
-        if at < table.len() {
-            table[at] = byte;
-        }
-    }
-    let Some(Ok(block)) = block_of(rt.alloc(), &tables) else {
-        panic!(rt; "no block");
-    };
-    assert_eq!(rt; block.as_slice(), expected.as_slice());
+    let want = opaque_block(rt.alloc())?;
+    same_opaque_block(&rt, rt.alloc(), want.as_slice());
     Ok(())
 }
 
 #[test]
 fn writes_a_usual_table_in_260_bytes(rt: HostRuntime) {
-    let Ok(base) = usual(rt.alloc()) else {
+    let Ok(tables) = usual_tables(rt.alloc()) else {
         panic!(rt; "out of memory");
     };
-    let tables = listed(0xF_0000, 0x000F_0010, base, Vec::new(rt.alloc()));
-    let Some(Ok(block)) = block_of(rt.alloc(), &tables) else {
+    let Some(block) = block_of(rt.alloc(), &tables) else {
         panic!(rt; "no block");
     };
-    assert_eq!(rt; block.len(), 260);
-    assert_eq!(rt; sum8(block.as_slice()), 0);
-    assert_eq!(rt;
-        block.as_slice().first_chunk::<8>(),
-        Some(b"PCMP\x04\x01\x04\xCE")
-    );
-    assert_eq!(rt;
-        block.as_slice().last_chunk::<8>(),
-        Some(b"\x04\x01\x00\x00\x01\x00\xFF\x01")
-    );
+    same_usual_block(&rt, block.as_slice());
+}
+
+// the size, the sum, the head and the last entry of the block of a usual board
+fn same_usual_block(rt: &impl Abort, block: &[u8]) {
+    same(rt, "the size", block.len(), 260);
+    same(rt, "the sum", sum8(block), 0);
+    let head = b"PCMP\x04\x01\x04\xCE";
+    same_part(rt, "the head", block.get(..8), head);
+    let last = b"\x04\x01\x00\x00\x01\x00\xFF\x01";
+    same_part(rt, "the last entry", block.get(252..), last);
 }
 
 #[test]
 fn writes_nothing_for_a_default_configuration(rt: HostRuntime) {
-    let Some(Ok(block)) = block_of(rt.alloc(), &default(5, 0x9_FC00, 0)) else {
-        panic!(rt; "no block");
-    };
-    assert_eq!(rt; block.as_slice(), b"".as_slice());
+    let tables = default(5, 0x9_FC00, 0);
+    same_block(&rt, rt.alloc(), &tables, b"");
 }
 
 // The image of a usual board: the segment F000h, the floating pointer at F0000h and the table behind it.
 #[test]
 fn writes_an_image_that_is_read_back(rt: HostRuntime) {
-    let Ok(base) = usual(rt.alloc()) else {
+    let Ok(tables) = usual_tables(rt.alloc()) else {
         panic!(rt; "out of memory");
     };
-    let tables = listed(0xF_0000, 0x000F_0010, base, Vec::new(rt.alloc()));
-    let Some(Ok(image)) = image_of(rt.alloc(), &tables) else {
+    let Some(image) = image_of(rt.alloc(), &tables) else {
         panic!(rt; "no image");
     };
-    let Some(Ok(block)) = block_of(rt.alloc(), &tables) else {
+    let Some(block) = block_of(rt.alloc(), &tables) else {
         panic!(rt; "no block");
     };
-    assert_eq!(rt; image.len(), 0x10_0000);
-    let (low, high) = image.as_slice().split_at(0xF_0000);
-    let (pointer, behind) = high.split_at(16);
-    let (table, rest) = behind.split_at(260);
-    assert_eq!(rt;
-        pointer,
-        b"_MP_\x10\x00\x0F\x00\x01\x04\x81\0\0\0\0\0".as_slice()
-    );
-    assert_eq!(rt; table, block.as_slice());
-    assert_eq!(rt; (low[0x40E], low[0x40F]), (0x00, 0xF0));
-    let used = low.iter().filter(|byte| **byte != 0).count();
-    assert_eq!(rt; used, 1);
-    assert!(rt; rest.iter().all(|byte| *byte == 0));
+    same_usual_image(&rt, image.as_slice(), block.as_slice());
     let Ok(again) = read(rt.alloc(), image.as_slice()) else {
         panic!(rt; "no tables in the image");
     };
-    assert_eq!(rt; (again.at, again.pointer), (tables.at, tables.pointer));
-    let Some(Ok(same)) = block_of(rt.alloc(), &again) else {
-        panic!(rt; "no block");
-    };
-    assert_eq!(rt; same.as_slice(), block.as_slice());
+    same(&rt, "the place", again.at, tables.at);
+    same(&rt, "the pointer", again.pointer, tables.pointer);
+    same_block(&rt, rt.alloc(), &again, block.as_slice());
+}
+
+// what an image of a usual board with this block has, and that it has nothing else
+fn same_usual_image(rt: &impl Abort, image: &[u8], block: &[u8]) {
+    same(rt, "the size", image.len(), 0x10_0000);
+    let pointer = b"_MP_\x10\x00\x0F\x00\x01\x04\x81\0\0\0\0\0";
+    let found = image.get(0xF_0000..0xF_0010);
+    same_part(rt, "the pointer", found, pointer);
+    let found = image.get(0xF_0010..0xF_0114);
+    same_part(rt, "the table", found, block);
+    let found = image.get(0x40E..0x410);
+    same_part(rt, "the segment", found, b"\x00\xF0");
+    same_used(rt, image.get(..0xF_0000), 1);
+    same_used(rt, image.get(0xF_0114..), 0);
 }
 
 // Only the EBDA segment and the floating pointer: the address of a default configuration names nothing.
 #[test]
 fn writes_an_image_of_a_default_configuration(rt: HostRuntime) {
     let tables = default(5, 0x9_FC00, 0xFFFF_FFFF);
-    let Some(Ok(image)) = image_of(rt.alloc(), &tables) else {
+    let Some(image) = image_of(rt.alloc(), &tables) else {
         panic!(rt; "no image");
     };
-    assert_eq!(rt; image.len(), 0x10_0000);
-    let (low, high) = image.as_slice().split_at(0x9_FC00);
-    assert_eq!(rt; (low[0x40E], low[0x40F]), (0xC0, 0x9F));
-    assert_eq!(rt;
-        high.first_chunk::<16>(),
-        Some(b"_MP_\xFF\xFF\xFF\xFF\x01\x04\x9F\x05\0\0\0\0")
-    );
-    let used = image.as_slice().iter().filter(|byte| **byte != 0).count();
-    assert_eq!(rt; used, 2 + 12);
+    same_default_image(&rt, image.as_slice());
+}
+
+// what an image of a default configuration has, and that it has nothing else
+fn same_default_image(rt: &impl Abort, image: &[u8]) {
+    same(rt, "the size", image.len(), 0x10_0000);
+    let found = image.get(0x40E..0x410);
+    same_part(rt, "the segment", found, b"\xC0\x9F");
+    let pointer = b"_MP_\xFF\xFF\xFF\xFF\x01\x04\x9F\x05\0\0\0\0";
+    let found = image.get(0x9_FC00..0x9_FC10);
+    same_part(rt, "the pointer", found, pointer);
+    same(rt, "nothing else", used(image), 2 + 12);
 }
