@@ -1,19 +1,17 @@
 //! Worked boards through their whole journals, entry by entry.
 
 use crate::boards::{old_processor, one_level, three_pulses, two_processors};
-use crate::rows::{at, collection, makes, next, sweep};
-use mpb_board::{Agent, Board, Imcr, Life, Op, What, room};
-use std::test::Fail;
+use crate::harness::{
+    has_clear_pins, has_clear_vector, has_entries, has_imcr, has_life, has_processors, has_room,
+    is_quiet, is_without, makes_all, makes_all_of, may_step, opened,
+};
+use crate::rows::{at, collection, next, sweep};
+use mpb_board::{Agent, Imcr, Life, Op, What};
 
 #[test]
-fn two_processors_start(rt: HostRuntime) -> Result<(), Fail> {
-    let Some(config) = two_processors(rt.alloc())? else {
-        panic!(rt; "no config");
-    };
-    assert_eq!(rt; room(&config), 7);
-    let Ok(mut board) = Board::new(rt.alloc(), config) else {
-        panic!(rt; "out of memory");
-    };
+fn two_processors_start(rt: HostRuntime) {
+    let mut board = opened(&rt, rt.alloc(), two_processors(rt.alloc()));
+    has_room(&rt, &board, 7);
     let boot = Agent::Cpu(0);
     let rows = [
         at(boot, Op::Init(1), 1, What::Waiting),
@@ -24,24 +22,21 @@ fn two_processors_start(rt: HostRuntime) -> Result<(), Fail> {
         next(boot, Op::Pause(200), What::Done),
         at(boot, Op::Check(1), 1, What::Runs(0x9F)),
     ];
-    for (i, row) in rows.iter().enumerate() {
-        assert!(rt; !board.quiet() && board.can_any(boot));
-        assert_eq!(rt; makes(&mut board, row), Ok(true), "entry {i}");
-    }
-    assert!(rt; board.quiet() && !board.can_any(boot) && board.journal().len() == 7);
-    assert!(rt; board.life(0) == Some(Life::First) && board.life(1) == Some(Life::Started(0x9F)));
-    assert!(rt; board.life(2) == None && board.lapic(2).is_none() && board.io(0).is_none());
-    assert!(rt; board.imcr() == Imcr::Absent && board.config().cpus.len() == 2);
-    Ok(())
+    makes_all_of(&rt, &mut board, boot, &rows);
+    is_quiet(&rt, &board, true);
+    may_step(&rt, &board, boot, false);
+    has_entries(&rt, &board, 7);
+    has_life(&rt, &board, 0, Some(Life::First));
+    has_life(&rt, &board, 1, Some(Life::Started(0x9F)));
+    is_without(&rt, &board, 2, 0);
+    has_imcr(&rt, &board, Imcr::Absent);
+    has_processors(&rt, &board, 2);
 }
 
 #[test]
-fn three_devices_pulse_one_pin(rt: HostRuntime) -> Result<(), Fail> {
-    let config = three_pulses(rt.alloc())?;
-    assert_eq!(rt; room(&config), 45);
-    let Ok(mut board) = Board::new(rt.alloc(), config) else {
-        panic!(rt; "out of memory");
-    };
+fn three_devices_pulse_one_pin(rt: HostRuntime) {
+    let mut board = opened(&rt, rt.alloc(), three_pulses(rt.alloc()));
+    has_room(&rt, &board, 45);
     let boot = Agent::Cpu(0);
     let io = Agent::Io(0);
     let rows = [
@@ -61,27 +56,16 @@ fn three_devices_pulse_one_pin(rt: HostRuntime) -> Result<(), Fail> {
         sweep(0),
         next(boot, Op::Eoi, What::Ended(0x21, false)),
     ];
-    for (i, row) in rows.iter().enumerate() {
-        assert_eq!(rt; makes(&mut board, row), Ok(true), "entry {i}");
-    }
-    assert!(rt; board.quiet() && board.journal().len() == 15);
-    let Some(lapic) = board.lapic(0) else {
-        panic!(rt; "no processor 0");
-    };
-    assert!(rt; lapic.tpr() == 0 && !lapic.irr(0x21) && !lapic.isr(0x21) && !lapic.tmr(0x21));
-    let Some(chip) = board.io(0) else {
-        panic!(rt; "no I/O APIC");
-    };
-    assert!(rt; chip.line() == 0 && chip.due() == 0 && chip.remote() == 0);
-    Ok(())
+    makes_all(&rt, &mut board, &rows);
+    is_quiet(&rt, &board, true);
+    has_entries(&rt, &board, 15);
+    has_clear_vector(&rt, &board, 0, 0x21);
+    has_clear_pins(&rt, &board, 0);
 }
 
 #[test]
-fn level_pin_is_sent_again(rt: HostRuntime) -> Result<(), Fail> {
-    let config = one_level(rt.alloc())?;
-    let Ok(mut board) = Board::new(rt.alloc(), config) else {
-        panic!(rt; "out of memory");
-    };
+fn level_pin_is_sent_again(rt: HostRuntime) {
+    let mut board = opened(&rt, rt.alloc(), one_level(rt.alloc()));
     let boot = Agent::Cpu(0);
     let io = Agent::Io(0);
     let device = Agent::Dev(0);
@@ -99,21 +83,14 @@ fn level_pin_is_sent_again(rt: HostRuntime) -> Result<(), Fail> {
         next(boot, Op::Eoi, What::Ended(0x30, true)),
         at(io, Op::Send(16), 0, What::Set),
     ];
-    for (i, row) in rows.iter().enumerate() {
-        assert_eq!(rt; makes(&mut board, row), Ok(true), "entry {i}");
-    }
-    assert!(rt; board.quiet() && board.journal().len() == 12);
-    Ok(())
+    makes_all(&rt, &mut board, &rows);
+    is_quiet(&rt, &board, true);
+    has_entries(&rt, &board, 12);
 }
 
 #[test]
-fn old_processor_starts_by_warm_reset(rt: HostRuntime) -> Result<(), Fail> {
-    let Some(config) = old_processor(rt.alloc())? else {
-        panic!(rt; "no config");
-    };
-    let Ok(mut board) = Board::new(rt.alloc(), config) else {
-        panic!(rt; "out of memory");
-    };
+fn old_processor_starts_by_warm_reset(rt: HostRuntime) {
+    let mut board = opened(&rt, rt.alloc(), old_processor(rt.alloc()));
     let boot = Agent::Cpu(0);
     let rows = [
         next(boot, Op::Warm(0x9F), What::Done),
@@ -128,9 +105,7 @@ fn old_processor_starts_by_warm_reset(rt: HostRuntime) -> Result<(), Fail> {
         next(boot, Op::Pause(200), What::Done),
         at(boot, Op::Check(2), 2, What::Absent),
     ];
-    for (i, row) in rows.iter().enumerate() {
-        assert_eq!(rt; makes(&mut board, row), Ok(true), "entry {i}");
-    }
-    assert!(rt; board.quiet() && board.imcr() == Imcr::Pic);
-    Ok(())
+    makes_all(&rt, &mut board, &rows);
+    is_quiet(&rt, &board, true);
+    has_imcr(&rt, &board, Imcr::Pic);
 }

@@ -1,6 +1,6 @@
 //! A row: what an agent is offered, and the entry that comes of it.
 
-use mpb_board::{Agent, Board, Offer, Op, Outcome, What};
+use mpb_board::{Agent, Board, Entry, Offer, Op, Outcome, What};
 use mpt_base::NoMemory;
 
 /// An agent, an offer, and the op and the outcome of the entry that comes of it.
@@ -60,9 +60,12 @@ pub fn makes(board: &mut Board, row: &Row) -> Result<bool, NoMemory> {
         return Ok(false);
     }
     let entry = board.step(row.agent, row.offer)?;
-    Ok(
-        entry.agent == row.agent
-            && entry.op == row.op
-            && entry.outcomes.as_slice() == [row.outcome].as_slice(),
-    )
+    Ok(is_of(&entry, row))
+}
+
+// Whether the entry is that of the row.
+fn is_of(entry: &Entry, row: &Row) -> bool {
+    entry.agent == row.agent
+        && entry.op == row.op
+        && entry.outcomes.as_slice() == [row.outcome].as_slice()
 }
