@@ -3,7 +3,7 @@
 ghost use Rattle.std.specs.Prelude.{◌<◌, ◌^◌, IfOk, IfSome};
 ghost use Rattle.mpb_spec.specs.Plan.{plan_size};
 
-use crate::rows::{Row, makes};
+use crate::rows::{Row, is_made};
 use mpb_board::{Agent, Board, Config, Imcr, Life, Offer, room};
 use mpb_ioapic::IoApic;
 use mpb_lapic::Lapic;
@@ -50,35 +50,23 @@ pub(crate) fn has_processors(rt: &impl Abort, board: &Board, want: usize) {
     same(rt, "processors", board.config().cpus.len(), want);
 }
 
-/// Asserts that the board makes these entries, one after another.
-pub(crate) fn makes_all(rt: &impl Abort, board: &mut Board, rows: &[Row]) {
-    for row in rows {
-        makes_one(rt, board, row);
-    }
+/// Asserts that the board makes this entry.
+pub(crate) fn makes(rt: &impl Abort, board: &mut Board, row: Row) {
+    let number = board.journal().len();
+    let made = is_made(board, row);
+    same(
+        rt,
+        "an entry's number, and whether it is made",
+        (number, made),
+        (number, Ok(true)),
+    );
 }
 
-/// Asserts that the board makes these entries of an agent, which may step before each while the board isn't
-/// quiet.
-pub(crate) fn makes_all_of(rt: &impl Abort, board: &mut Board, agent: Agent, rows: &[Row]) {
-    for row in rows {
-        is_quiet(rt, board, false);
-        may_step(rt, board, agent, true);
-        makes_one(rt, board, row);
-    }
-}
-
-/// Asserts that the board makes these entries, and that the agent may step with the offer after none of them.
-pub(crate) fn makes_all_refusing(
-    rt: &impl Abort,
-    board: &mut Board,
-    agent: Agent,
-    offer: Offer,
-    rows: &[Row],
-) {
-    for row in rows {
-        makes_one(rt, board, row);
-        refuses(rt, board, agent, offer);
-    }
+/// Asserts that the board makes this entry of an agent, which may step before, while the board isn't quiet.
+pub(crate) fn goes_on(rt: &impl Abort, board: &mut Board, agent: Agent, row: Row) {
+    is_quiet(rt, board, false);
+    may_step(rt, board, agent, true);
+    makes(rt, board, row);
 }
 
 /// Asserts that the agent may collect none of these sets of pins.
@@ -86,18 +74,6 @@ pub(crate) fn refuses_collections(rt: &impl Abort, board: &Board, agent: Agent, 
     for pins in sets {
         refuses(rt, board, agent, Offer::Collect(*pins));
     }
-}
-
-/// Asserts that the board makes this entry.
-pub(crate) fn makes_one(rt: &impl Abort, board: &mut Board, row: &Row) {
-    let number = board.journal().len();
-    let made = makes(board, row);
-    same(
-        rt,
-        "an entry's number, and what is made",
-        (number, made),
-        (number, Ok(true)),
-    );
 }
 
 /// Asserts that the agent may not step with the offer.

@@ -55,12 +55,12 @@ pub fn sweep(place: u8) -> Row {
 }
 
 /// Whether the board may step so, and its entry is that of the row.
-pub fn makes(board: &mut Board, row: &Row) -> Result<bool, NoMemory> {
+pub fn is_made(board: &mut Board, row: Row) -> Result<bool, NoMemory> {
     if !board.can_step(row.agent, row.offer) {
         return Ok(false);
     }
     let entry = board.step(row.agent, row.offer)?;
-    Ok(is_of(&entry, row))
+    Ok(is_of(&entry, &row))
 }
 
 // Whether the entry is that of the row.
