@@ -39,8 +39,8 @@ pub fn two_processors(alloc: Global) -> Result<Option<Config>, AllocError>
 /// One processor of version 10h and one I/O APIC of id 1, whose pin 1 the boot program unmasks with
 /// vector 21h as an edge pin; then the processor takes an interrupt and ends it. Three devices pulse the pin
 /// once each.
-pub fn three_pulses(alloc: Global) -> Result<Config, AllocError>
-    ensures { IfOk result (λ c. plan_size c < 2 ^ 32) }
+pub fn three_pulses(alloc: Global) -> Result<Option<Config>, AllocError>
+    ensures { IfOk result (λ made. IfSome made (λ c. plan_size c < 2 ^ 32)) }
 {
     let program = [
         Op::IoSel(0, 0x13),
@@ -61,21 +61,21 @@ pub fn three_pulses(alloc: Global) -> Result<Config, AllocError>
     devices.push([DevWord::Pulse(0, 1)].to_vec(alloc)?)?;
     devices.push([DevWord::Pulse(0, 1)].to_vec(alloc)?)?;
     devices.push([DevWord::Pulse(0, 1)].to_vec(alloc)?)?;
-    Ok(Config {
+    Ok(Some(Config {
         boot: 0,
         boot_len: 4,
         cpus,
         ios: [1].to_vec(alloc)?,
         imcr: false,
         devices,
-    })
+    }))
 }
 
 /// One processor of version 10h and one I/O APIC of id 1, whose pin 16 the boot program unmasks with
 /// vector 30h as a level pin; then the processor takes an interrupt and ends it. One device asserts the
 /// pin's line.
-pub fn one_level(alloc: Global) -> Result<Config, AllocError>
-    ensures { IfOk result (λ c. plan_size c < 2 ^ 32) }
+pub fn one_level(alloc: Global) -> Result<Option<Config>, AllocError>
+    ensures { IfOk result (λ made. IfSome made (λ c. plan_size c < 2 ^ 32)) }
 {
     let program = [
         Op::IoSel(0, 0x31),
@@ -94,14 +94,14 @@ pub fn one_level(alloc: Global) -> Result<Config, AllocError>
     })?;
     let mut devices = Vec::new(alloc);
     devices.push([DevWord::High(0, 16)].to_vec(alloc)?)?;
-    Ok(Config {
+    Ok(Some(Config {
         boot: 0,
         boot_len: 4,
         cpus,
         ios: [1].to_vec(alloc)?,
         imcr: false,
         devices,
-    })
+    }))
 }
 
 /// Processors 0 (boot, version 10h) and 1 (version 01h). The boot program starts processor 1 by the

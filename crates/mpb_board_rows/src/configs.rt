@@ -1,9 +1,10 @@
 //! Parts that make a config, and parts that make none.
 
+use crate::harness::same;
 use mpb_board::{CpuConfig, DevWord, Op};
 use mpb_config::config_of;
 use std::alloc::{AllocError, Global};
-use std::test::Fail;
+use std::process::Abort;
 
 /// What is varied: the page that is asked for, the boot processor's id, the length of the boot program,
 /// the second processor's id, the place that an op names, and the pin that a word names.
@@ -52,8 +53,17 @@ fn are_a_config(alloc: Global, parts: Parts) -> Result<bool, AllocError> {
     .is_some())
 }
 
+// asserts whether they are one
+fn gives(rt: &impl Abort, alloc: Global, parts: Parts, want: bool, what: &str) {
+    match are_a_config(alloc, parts) {
+        Ok(made) => same(rt, what, made, want),
+        Err(_) => panic!(rt; "out of memory"),
+    }
+}
+
 #[test]
-fn parts_are_a_config_or_none(rt: HostRuntime) -> Result<(), Fail> {
+fn parts_are_a_config_or_none(rt: HostRuntime) {
+    let alloc = rt.alloc();
     let good = Parts {
         page: 0x9F,
         boot: 0,
@@ -62,60 +72,64 @@ fn parts_are_a_config_or_none(rt: HostRuntime) -> Result<(), Fail> {
         place: 0,
         pin: 23,
     };
-    let cases = [
-        (good, true, "as it should be"),
-        (
-            Parts {
-                boot_len: 2,
-                ..good
-            },
-            true,
-            "the selection is a script's",
-        ),
-        (Parts { page: 0x9E, ..good }, false, "another page"),
-        (Parts { boot: 2, ..good }, false, "no boot processor"),
-        (
-            Parts {
-                boot_len: 1,
-                ..good
-            },
-            false,
-            "a STARTUP in a script",
-        ),
-        (
-            Parts {
-                boot_len: 4,
-                ..good
-            },
-            false,
-            "a take in a boot program",
-        ),
-        (
-            Parts {
-                boot_len: 5,
-                ..good
-            },
-            false,
-            "a boot program that is too long",
-        ),
-        (
-            Parts { second: 0, ..good },
-            false,
-            "two processors of one id",
-        ),
-        (
-            Parts {
-                second: 255,
-                ..good
-            },
-            false,
-            "a wide id",
-        ),
-        (Parts { place: 1, ..good }, false, "no such I/O APIC"),
-        (Parts { pin: 24, ..good }, false, "no such pin"),
-    ];
-    for (parts, want, what) in cases {
-        assert_eq!(rt; are_a_config(rt.alloc(), parts)?, want, "{what}");
-    }
-    Ok(())
+    gives(&rt, alloc, good, true, "as it should be");
+    let script = Parts {
+        boot_len: 2,
+        ..good
+    };
+    gives(&rt, alloc, script, true, "the selection is a script's");
+    gives(
+        &rt,
+        alloc,
+        Parts { page: 0x9E, ..good },
+        false,
+        "another page",
+    );
+    gives(
+        &rt,
+        alloc,
+        Parts { boot: 2, ..good },
+        false,
+        "no boot processor",
+    );
+    let startup = Parts {
+        boot_len: 1,
+        ..good
+    };
+    gives(&rt, alloc, startup, false, "a STARTUP in a script");
+    let take = Parts {
+        boot_len: 4,
+        ..good
+    };
+    gives(&rt, alloc, take, false, "a take in a boot program");
+    let long = Parts {
+        boot_len: 5,
+        ..good
+    };
+    gives(&rt, alloc, long, false, "a boot program that is too long");
+    gives(
+        &rt,
+        alloc,
+        Parts { second: 0, ..good },
+        false,
+        "two processors of one id",
+    );
+    gives(
+        &rt,
+        alloc,
+        Parts {
+            second: 255,
+            ..good
+        },
+        false,
+        "a wide id",
+    );
+    gives(
+        &rt,
+        alloc,
+        Parts { place: 1, ..good },
+        false,
+        "no such I/O APIC",
+    );
+    gives(&rt, alloc, Parts { pin: 24, ..good }, false, "no such pin");
 }

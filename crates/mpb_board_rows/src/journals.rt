@@ -1,136 +1,158 @@
 //! Worked boards through their whole journals, entry by entry.
 
 use crate::boards::{old_processor, one_level, three_pulses, two_processors};
-use crate::rows::{at, collection, makes, next, sweep};
-use mpb_board::{Agent, Board, Imcr, Life, Op, What, room};
-use std::test::Fail;
+use crate::harness::{
+    goes_on, has_clear_pins, has_clear_vector, has_entries, has_imcr, has_life, has_processors,
+    has_room, is_quiet, is_without, makes, may_step, opened,
+};
+use crate::rows::{at, collection, next, sweep};
+use mpb_board::{Agent, Imcr, Life, Op, What};
 
 #[test]
-fn two_processors_start(rt: HostRuntime) -> Result<(), Fail> {
-    let Some(config) = two_processors(rt.alloc())? else {
-        panic!(rt; "no config");
-    };
-    assert_eq!(rt; room(&config), 7);
-    let Ok(mut board) = Board::new(rt.alloc(), config) else {
-        panic!(rt; "out of memory");
-    };
+fn two_processors_start(rt: HostRuntime) {
+    let mut board = opened(&rt, rt.alloc(), two_processors(rt.alloc()));
+    has_room(&rt, &board, 7);
     let boot = Agent::Cpu(0);
-    let rows = [
+    goes_on(
+        &rt,
+        &mut board,
+        boot,
         at(boot, Op::Init(1), 1, What::Waiting),
+    );
+    goes_on(
+        &rt,
+        &mut board,
+        boot,
         next(boot, Op::Pause(10_000), What::Done),
+    );
+    goes_on(
+        &rt,
+        &mut board,
+        boot,
         at(boot, Op::Startup(1, 0x9F), 1, What::Started(0x9F)),
+    );
+    goes_on(
+        &rt,
+        &mut board,
+        boot,
         next(boot, Op::Pause(200), What::Done),
+    );
+    goes_on(
+        &rt,
+        &mut board,
+        boot,
         at(boot, Op::Startup(1, 0x9F), 1, What::Ignored),
+    );
+    goes_on(
+        &rt,
+        &mut board,
+        boot,
         next(boot, Op::Pause(200), What::Done),
+    );
+    goes_on(
+        &rt,
+        &mut board,
+        boot,
         at(boot, Op::Check(1), 1, What::Runs(0x9F)),
-    ];
-    for (i, row) in rows.iter().enumerate() {
-        assert!(rt; !board.quiet() && board.can_any(boot));
-        assert_eq!(rt; makes(&mut board, row), Ok(true), "entry {i}");
-    }
-    assert!(rt; board.quiet() && !board.can_any(boot) && board.journal().len() == 7);
-    assert!(rt; board.life(0) == Some(Life::First) && board.life(1) == Some(Life::Started(0x9F)));
-    assert!(rt; board.life(2) == None && board.lapic(2).is_none() && board.io(0).is_none());
-    assert!(rt; board.imcr() == Imcr::Absent && board.config().cpus.len() == 2);
-    Ok(())
+    );
+    is_quiet(&rt, &board, true);
+    may_step(&rt, &board, boot, false);
+    has_entries(&rt, &board, 7);
+    has_life(&rt, &board, 0, Some(Life::First));
+    has_life(&rt, &board, 1, Some(Life::Started(0x9F)));
+    is_without(&rt, &board, 2, 0);
+    has_imcr(&rt, &board, Imcr::Absent);
+    has_processors(&rt, &board, 2);
 }
 
 #[test]
-fn three_devices_pulse_one_pin(rt: HostRuntime) -> Result<(), Fail> {
-    let config = three_pulses(rt.alloc())?;
-    assert_eq!(rt; room(&config), 45);
-    let Ok(mut board) = Board::new(rt.alloc(), config) else {
-        panic!(rt; "out of memory");
-    };
+fn three_devices_pulse_one_pin(rt: HostRuntime) {
+    let mut board = opened(&rt, rt.alloc(), three_pulses(rt.alloc()));
+    has_room(&rt, &board, 45);
     let boot = Agent::Cpu(0);
     let io = Agent::Io(0);
-    let rows = [
-        next(boot, Op::IoSel(0, 0x13), What::Done),
-        next(boot, Op::IoWin(0, 0), What::Plain),
-        next(boot, Op::IoSel(0, 0x12), What::Done),
-        next(boot, Op::IoWin(0, 0x21), What::Plain),
-        next(Agent::Dev(0), Op::Begin, What::Done),
-        next(Agent::Dev(1), Op::Begin, What::Done),
-        next(Agent::Dev(2), Op::Begin, What::Done),
-        collection(0, 2, 2, 0),
-        next(Agent::Dev(0), Op::End, What::Done),
-        next(Agent::Dev(1), Op::End, What::Done),
-        next(Agent::Dev(2), Op::End, What::Done),
-        at(io, Op::Send(1), 0, What::Set),
-        next(boot, Op::Take, What::Taken(0x21)),
-        sweep(0),
+    makes(&rt, &mut board, next(boot, Op::IoSel(0, 0x13), What::Done));
+    makes(&rt, &mut board, next(boot, Op::IoWin(0, 0), What::Plain));
+    makes(&rt, &mut board, next(boot, Op::IoSel(0, 0x12), What::Done));
+    makes(&rt, &mut board, next(boot, Op::IoWin(0, 0x21), What::Plain));
+    makes(&rt, &mut board, next(Agent::Dev(0), Op::Begin, What::Done));
+    makes(&rt, &mut board, next(Agent::Dev(1), Op::Begin, What::Done));
+    makes(&rt, &mut board, next(Agent::Dev(2), Op::Begin, What::Done));
+    makes(&rt, &mut board, collection(0, 2, 2, 0));
+    makes(&rt, &mut board, next(Agent::Dev(0), Op::End, What::Done));
+    makes(&rt, &mut board, next(Agent::Dev(1), Op::End, What::Done));
+    makes(&rt, &mut board, next(Agent::Dev(2), Op::End, What::Done));
+    makes(&rt, &mut board, at(io, Op::Send(1), 0, What::Set));
+    makes(&rt, &mut board, next(boot, Op::Take, What::Taken(0x21)));
+    makes(&rt, &mut board, sweep(0));
+    makes(
+        &rt,
+        &mut board,
         next(boot, Op::Eoi, What::Ended(0x21, false)),
-    ];
-    for (i, row) in rows.iter().enumerate() {
-        assert_eq!(rt; makes(&mut board, row), Ok(true), "entry {i}");
-    }
-    assert!(rt; board.quiet() && board.journal().len() == 15);
-    let Some(lapic) = board.lapic(0) else {
-        panic!(rt; "no processor 0");
-    };
-    assert!(rt; lapic.tpr() == 0 && !lapic.irr(0x21) && !lapic.isr(0x21) && !lapic.tmr(0x21));
-    let Some(chip) = board.io(0) else {
-        panic!(rt; "no I/O APIC");
-    };
-    assert!(rt; chip.line() == 0 && chip.due() == 0 && chip.remote() == 0);
-    Ok(())
+    );
+    is_quiet(&rt, &board, true);
+    has_entries(&rt, &board, 15);
+    has_clear_vector(&rt, &board, 0, 0x21);
+    has_clear_pins(&rt, &board, 0);
 }
 
 #[test]
-fn level_pin_is_sent_again(rt: HostRuntime) -> Result<(), Fail> {
-    let config = one_level(rt.alloc())?;
-    let Ok(mut board) = Board::new(rt.alloc(), config) else {
-        panic!(rt; "out of memory");
-    };
+fn level_pin_is_sent_again(rt: HostRuntime) {
+    let mut board = opened(&rt, rt.alloc(), one_level(rt.alloc()));
     let boot = Agent::Cpu(0);
     let io = Agent::Io(0);
     let device = Agent::Dev(0);
-    let rows = [
-        next(boot, Op::IoSel(0, 0x31), What::Done),
-        next(boot, Op::IoWin(0, 0), What::Plain),
-        next(boot, Op::IoSel(0, 0x30), What::Done),
+    makes(&rt, &mut board, next(boot, Op::IoSel(0, 0x31), What::Done));
+    makes(&rt, &mut board, next(boot, Op::IoWin(0, 0), What::Plain));
+    makes(&rt, &mut board, next(boot, Op::IoSel(0, 0x30), What::Done));
+    makes(
+        &rt,
+        &mut board,
         next(boot, Op::IoWin(0, 0xA030), What::Plain),
-        next(device, Op::Begin, What::Done),
-        next(device, Op::High(0, 16), What::Due),
-        at(io, Op::Send(16), 0, What::Set),
-        next(device, Op::End, What::Done),
-        next(boot, Op::Take, What::Taken(0x30)),
-        sweep(0),
+    );
+    makes(&rt, &mut board, next(device, Op::Begin, What::Done));
+    makes(&rt, &mut board, next(device, Op::High(0, 16), What::Due));
+    makes(&rt, &mut board, at(io, Op::Send(16), 0, What::Set));
+    makes(&rt, &mut board, next(device, Op::End, What::Done));
+    makes(&rt, &mut board, next(boot, Op::Take, What::Taken(0x30)));
+    makes(&rt, &mut board, sweep(0));
+    makes(
+        &rt,
+        &mut board,
         next(boot, Op::Eoi, What::Ended(0x30, true)),
-        at(io, Op::Send(16), 0, What::Set),
-    ];
-    for (i, row) in rows.iter().enumerate() {
-        assert_eq!(rt; makes(&mut board, row), Ok(true), "entry {i}");
-    }
-    assert!(rt; board.quiet() && board.journal().len() == 12);
-    Ok(())
+    );
+    makes(&rt, &mut board, at(io, Op::Send(16), 0, What::Set));
+    is_quiet(&rt, &board, true);
+    has_entries(&rt, &board, 12);
 }
 
 #[test]
-fn old_processor_starts_by_warm_reset(rt: HostRuntime) -> Result<(), Fail> {
-    let Some(config) = old_processor(rt.alloc())? else {
-        panic!(rt; "no config");
-    };
-    let Ok(mut board) = Board::new(rt.alloc(), config) else {
-        panic!(rt; "out of memory");
-    };
+fn old_processor_starts_by_warm_reset(rt: HostRuntime) {
+    let mut board = opened(&rt, rt.alloc(), old_processor(rt.alloc()));
     let boot = Agent::Cpu(0);
-    let rows = [
-        next(boot, Op::Warm(0x9F), What::Done),
+    makes(&rt, &mut board, next(boot, Op::Warm(0x9F), What::Done));
+    makes(
+        &rt,
+        &mut board,
         at(boot, Op::Init(1), 1, What::Started(0x9F)),
-        next(boot, Op::Pause(10_000), What::Done),
-        at(boot, Op::Check(1), 1, What::Runs(0x9F)),
-        at(boot, Op::Init(2), 2, What::Absent),
-        next(boot, Op::Pause(10_000), What::Done),
+    );
+    makes(&rt, &mut board, next(boot, Op::Pause(10_000), What::Done));
+    makes(&rt, &mut board, at(boot, Op::Check(1), 1, What::Runs(0x9F)));
+    makes(&rt, &mut board, at(boot, Op::Init(2), 2, What::Absent));
+    makes(&rt, &mut board, next(boot, Op::Pause(10_000), What::Done));
+    makes(
+        &rt,
+        &mut board,
         at(boot, Op::Startup(2, 0x9F), 2, What::Absent),
-        next(boot, Op::Pause(200), What::Done),
+    );
+    makes(&rt, &mut board, next(boot, Op::Pause(200), What::Done));
+    makes(
+        &rt,
+        &mut board,
         at(boot, Op::Startup(2, 0x9F), 2, What::Absent),
-        next(boot, Op::Pause(200), What::Done),
-        at(boot, Op::Check(2), 2, What::Absent),
-    ];
-    for (i, row) in rows.iter().enumerate() {
-        assert_eq!(rt; makes(&mut board, row), Ok(true), "entry {i}");
-    }
-    assert!(rt; board.quiet() && board.imcr() == Imcr::Pic);
-    Ok(())
+    );
+    makes(&rt, &mut board, next(boot, Op::Pause(200), What::Done));
+    makes(&rt, &mut board, at(boot, Op::Check(2), 2, What::Absent));
+    is_quiet(&rt, &board, true);
+    has_imcr(&rt, &board, Imcr::Pic);
 }

@@ -7,6 +7,8 @@ mod boards;
 #[cfg(test)]
 mod configs;
 #[cfg(test)]
+mod harness;
+#[cfg(test)]
 mod journals;
 #[cfg(test)]
 mod refusals;

@@ -1,6 +1,6 @@
 //! A row: what an agent is offered, and the entry that comes of it.
 
-use mpb_board::{Agent, Board, Offer, Op, Outcome, What};
+use mpb_board::{Agent, Board, Entry, Offer, Op, Outcome, What};
 use mpt_base::NoMemory;
 
 /// An agent, an offer, and the op and the outcome of the entry that comes of it.
@@ -55,14 +55,17 @@ pub fn sweep(place: u8) -> Row {
 }
 
 /// Whether the board may step so, and its entry is that of the row.
-pub fn makes(board: &mut Board, row: &Row) -> Result<bool, NoMemory> {
+pub fn is_made(board: &mut Board, row: Row) -> Result<bool, NoMemory> {
     if !board.can_step(row.agent, row.offer) {
         return Ok(false);
     }
     let entry = board.step(row.agent, row.offer)?;
-    Ok(
-        entry.agent == row.agent
-            && entry.op == row.op
-            && entry.outcomes.as_slice() == [row.outcome].as_slice(),
-    )
+    Ok(is_of(&entry, &row))
+}
+
+// Whether the entry is that of the row.
+fn is_of(entry: &Entry, row: &Row) -> bool {
+    entry.agent == row.agent
+        && entry.op == row.op
+        && entry.outcomes.as_slice() == [row.outcome].as_slice()
 }

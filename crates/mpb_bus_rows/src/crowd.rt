@@ -2,8 +2,8 @@
 
 use crate::boards::{crowd, two_processors};
 use crate::crew::work_all;
-use crate::harness::opened;
-use crate::walk::is_walked;
+use crate::harness::{is_at, opened, same};
+use crate::walk::walks;
 use mpb_board::Op;
 use std::test::Fail;
 
@@ -13,20 +13,17 @@ fn two_threads_make_nine_entries(rt: HostRuntime) -> Result<(), Fail> {
     let config = two_processors(rt.alloc(), words.as_slice())?;
     let (bus, mut seats) = opened(rt.alloc(), config)?;
     work_all(&rt, &bus, &mut seats);
-    let board = bus.close(seats);
-    assert!(rt; board.quiet());
-    assert_eq!(rt; board.journal().len(), 9);
+    is_at(&rt, &bus.close(seats), 9, true);
     Ok(())
 }
 
 #[test]
 fn sixteen_threads_make_one_history(rt: HostRuntime) -> Result<(), Fail> {
     let (bus, mut seats) = opened(rt.alloc(), crowd(rt.alloc())?)?;
-    assert_eq!(rt; seats.len(), 16);
+    same(&rt, "seats", seats.len(), 16);
     work_all(&rt, &bus, &mut seats);
     let board = bus.close(seats);
-    assert!(rt; board.quiet());
-    let config = crowd(rt.alloc())?.ok_or("no config")?;
-    assert!(rt; is_walked(rt.alloc(), config, board.journal())?);
+    same(&rt, "whether the board is quiet", board.quiet(), true);
+    walks(&rt, rt.alloc(), crowd(rt.alloc())?, board.journal());
     Ok(())
 }

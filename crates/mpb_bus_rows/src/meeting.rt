@@ -8,6 +8,7 @@ use crate::harness::opened;
 use mpb_board::{Entry, Offer, Op};
 use mpb_bus::{Bus, BusSeat, Turn};
 use std::alloc::Global;
+use std::process::Abort;
 use std::sync::Wait;
 use std::test::Fail;
 
@@ -53,6 +54,12 @@ fn two_seats(alloc: Global) -> Result<(Bus, BusSeat, BusSeat), Fail>
     Ok((bus, one, two))
 }
 
+/// Asserts the op of an entry.
+fn has_op(rt: &impl Abort, entry: &Entry, want: Op) {
+    let got = entry.op;
+    assert!(rt; got == want, "another op");
+}
+
 #[test]
 fn meeting_tells_three_entries(rt: HostRuntime) -> Result<(), Fail> {
     let (bus, mut one, mut two) = two_seats(rt.alloc())?;
@@ -60,11 +67,12 @@ fn meeting_tells_three_entries(rt: HostRuntime) -> Result<(), Fail> {
     else {
         panic!(rt; "no three entries");
     };
-    assert!(rt; first.op == Op::Init(1) && second.op == Op::Pause(10_000));
-    assert!(rt; third.op == Op::Startup(1, 0x9F));
+    has_op(&rt, &first, Op::Init(1));
+    has_op(&rt, &second, Op::Pause(10_000));
+    has_op(&rt, &third, Op::Startup(1, 0x9F));
     let Some(fourth) = entry_of(&rt, &bus, &mut two) else {
         panic!(rt; "no fourth entry");
     };
-    assert!(rt; fourth.op == Op::Pause(1));
+    has_op(&rt, &fourth, Op::Pause(1));
     Ok(())
 }

@@ -1,11 +1,13 @@
 //! A journal by a walk of a second board.
 
-ghost use Rattle.std.specs.Prelude.{◌<◌, ◌^◌};
+ghost use Rattle.std.specs.Prelude.{◌<◌, ◌^◌, IfSome};
 ghost use Rattle.mpb_spec.specs.Plan.{plan_size};
 
+use crate::harness::same;
 use mpb_board::{Board, Config, Entry, Offer, Op};
 use mpt_base::NoMemory;
 use std::alloc::Global;
+use std::process::Abort;
 
 /// The offer with which an op is made.
 fn offer_of(op: Op) -> Offer {
@@ -17,12 +19,12 @@ fn offer_of(op: Op) -> Offer {
 }
 
 /// Whether two entries are the same.
-fn same(one: &Entry, two: &Entry) -> bool {
+fn are_same(one: &Entry, two: &Entry) -> bool {
     one.agent == two.agent && one.op == two.op && one.outcomes.as_slice() == two.outcomes.as_slice()
 }
 
 /// Whether a new board of the config makes these entries, one after the other, and is then at its end.
-pub(crate) fn is_walked(alloc: Global, config: Config, journal: &[Entry]) -> Result<bool, NoMemory>
+fn is_walked(alloc: Global, config: Config, journal: &[Entry]) -> Result<bool, NoMemory>
     requires { plan_size config < 2 ^ 32 }
 {
     let mut board = Board::new(alloc, config)?;
@@ -32,9 +34,19 @@ pub(crate) fn is_walked(alloc: Global, config: Config, journal: &[Entry]) -> Res
             return Ok(false);
         }
         let made = board.step(entry.agent, offer)?;
-        if !same(&made, entry) {
+        if !are_same(&made, entry) {
             return Ok(false);
         }
     }
     Ok(board.quiet())
+}
+
+/// Asserts that there is a config, and that a new board of it makes these entries.
+pub(crate) fn walks(rt: &impl Abort, alloc: Global, config: Option<Config>, journal: &[Entry])
+    requires { IfSome config (λ c. plan_size c < 2 ^ 32) }
+{
+    match config {
+        Some(config) => same(rt, "the walk", is_walked(alloc, config, journal), Ok(true)),
+        None => panic!(rt; "no config"),
+    }
 }

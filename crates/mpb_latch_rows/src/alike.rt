@@ -1,8 +1,9 @@
 //! The same calls on both latches, made by one thread: the same answers.
 
-use crate::beside::{both_collect, both_end, both_ended, both_pulse, stay_quiet};
-use crate::harness::{closed, one_each, three_devices};
+use crate::beside::{both_collect, both_end, both_pulse, both_say, stay_quiet};
+use crate::harness::{closed, one_each, same, three_devices};
 use mpb_latch::{Account, Hit, Latch, PlainLatch, Pulse};
+use std::process::Abort;
 use std::test::Fail;
 
 /// Whether the log of a device has one pulse alone, with this answer.
@@ -11,6 +12,23 @@ fn log_is(account: &Account, device: usize, pulse: Pulse, hit: Hit) -> bool {
         return false;
     };
     log.as_slice() == [(pulse, hit)].as_slice()
+}
+
+/// Asserts that the log of a device has one pulse alone, with this answer.
+fn has_log(rt: &impl Abort, account: &Account, device: usize, pulse: Pulse, hit: Hit) {
+    let is = log_is(account, device, pulse, hit);
+    same(
+        rt,
+        "a device, and whether its log is as wanted",
+        (device, is),
+        (device, true),
+    );
+}
+
+/// Asserts how many logs and how many counts the account has.
+fn has_sizes(rt: &impl Abort, account: &Account, logs: usize, counts: usize) {
+    let got = (account.logs.len(), account.collected.len());
+    same(rt, "logs, and counts", got, (logs, counts));
 }
 
 /// Whether the counts are those of one I/O APIC whose pin 1 alone was collected, once.
@@ -33,9 +51,9 @@ fn pulse_again(rt: HostRuntime) -> Result<(), Fail> {
     let pulse = Pulse { io: 0, pin: 16 };
     let mut plain = PlainLatch::new(1, 1);
     let (latch, mut seat, mut col) = one_each(alloc, pulse)?;
-    assert!(rt; both_pulse(&mut plain, &latch, &mut seat, pulse, Hit::New));
-    assert!(rt; both_collect(&mut plain, &latch, &mut col, 0x10000));
-    assert!(rt; both_pulse(&mut plain, &latch, &mut seat, pulse, Hit::New));
+    both_pulse(&rt, &mut plain, &latch, &mut seat, pulse, Hit::New);
+    both_collect(&rt, &mut plain, &latch, &mut col, 0x10000);
+    both_pulse(&rt, &mut plain, &latch, &mut seat, pulse, Hit::New);
     Ok(())
 }
 
@@ -46,25 +64,25 @@ fn three_devices_pulse_one_pin(rt: HostRuntime) -> Result<(), Fail> {
     let mut plain = PlainLatch::new(1, 3);
     let (latch, mut first, mut second, mut third, mut col) = three_devices(alloc, pulse)?;
     // Four rounds in which the boot program runs, and the one in which the devices pulse
-    assert!(rt; stay_quiet(&mut plain, &latch, &mut col, 5));
-    assert!(rt; both_pulse(&mut plain, &latch, &mut first, pulse, Hit::New));
-    assert!(rt; both_pulse(&mut plain, &latch, &mut second, pulse, Hit::Merged));
-    assert!(rt; both_pulse(&mut plain, &latch, &mut third, pulse, Hit::Merged));
+    stay_quiet(&rt, &mut plain, &latch, &mut col, 5);
+    both_pulse(&rt, &mut plain, &latch, &mut first, pulse, Hit::New);
+    both_pulse(&rt, &mut plain, &latch, &mut second, pulse, Hit::Merged);
+    both_pulse(&rt, &mut plain, &latch, &mut third, pulse, Hit::Merged);
     // The pin is collected, and then the devices end
-    assert!(rt; both_collect(&mut plain, &latch, &mut col, 2));
+    both_collect(&rt, &mut plain, &latch, &mut col, 2);
     both_end(&mut plain, &latch, &mut first);
     both_end(&mut plain, &latch, &mut second);
     both_end(&mut plain, &latch, &mut third);
     // The message is sent, and then the I/O APIC sweeps
-    assert!(rt; both_collect(&mut plain, &latch, &mut col, 0));
-    assert!(rt; both_collect(&mut plain, &latch, &mut col, 0));
-    assert!(rt; both_ended(&plain, &latch, &mut col));
+    both_collect(&rt, &mut plain, &latch, &mut col, 0);
+    both_collect(&rt, &mut plain, &latch, &mut col, 0);
+    both_say(&rt, &plain, &latch, &mut col, true);
     let account = closed(alloc, latch, first, second, third, col)?;
-    assert!(rt; account.logs.len() == 3);
-    assert!(rt; log_is(&account, 0, pulse, Hit::New));
-    assert!(rt; log_is(&account, 1, pulse, Hit::Merged));
-    assert!(rt; log_is(&account, 2, pulse, Hit::Merged));
-    assert!(rt; pin_1_was_collected_once(&account));
+    has_sizes(&rt, &account, 3, 1);
+    has_log(&rt, &account, 0, pulse, Hit::New);
+    has_log(&rt, &account, 1, pulse, Hit::Merged);
+    has_log(&rt, &account, 2, pulse, Hit::Merged);
+    same(&rt, "the counts", pin_1_was_collected_once(&account), true);
     Ok(())
 }
 
@@ -73,8 +91,7 @@ fn no_collector(rt: HostRuntime) -> Result<(), Fail> {
     let alloc = rt.alloc();
     let plans: Vec<Vec<Pulse>> = Vec::new(alloc);
     let (latch, seats, cols) = Latch::new(alloc, 0, plans.as_slice())?;
-    assert!(rt; seats.is_empty() && cols.is_empty());
-    let account = latch.close(seats, cols);
-    assert!(rt; account.logs.is_empty() && account.collected.is_empty());
+    same(&rt, "seats", (seats.len(), cols.len()), (0, 0));
+    has_sizes(&rt, &latch.close(seats, cols), 0, 0);
     Ok(())
 }

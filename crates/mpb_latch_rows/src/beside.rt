@@ -1,16 +1,19 @@
 //! A call on the plain latch beside the same call on the shared one.
 ghost use Rattle.std.specs.Prelude.{◌≡◌, ◌<◌, ◌+◌, false, length, Some, slice_get};
 
+use crate::harness::same;
 use mpb_latch::{ColSeat, DevSeat, Hit, Latch, PlainLatch, Pulse};
+use std::process::Abort;
 
-/// Whether the pulse is answered so by both.
+/// Asserts that the pulse is answered so by both.
 pub(crate) fn both_pulse(
+    rt: &impl Abort,
     plain: &mut PlainLatch,
     latch: &Latch,
     seat: &mut DevSeat,
     pulse: Pulse,
     wanted: Hit,
-) -> bool
+)
     requires plain { (pulse.io < length plain.old.pins) × (pulse.pin < 24) }
     requires seat { (seat.old.latch ≡ latch.now.latch) × (slice_get seat.old.plan (length seat.old.log) ≡ Some pulse) }
     ensures plain { (length plain.new.pins ≡ length plain.old.pins) × (plain.new.devices ≡ plain.old.devices) × (plain.new.ended ≡ plain.old.ended) }
@@ -18,16 +21,17 @@ pub(crate) fn both_pulse(
 {
     let answer = plain.pulse(pulse);
     let shared = latch.pulse(seat, pulse);
-    answer == wanted && shared == wanted
+    assert!(rt; answer == wanted && shared == wanted, "another answer");
 }
 
-/// Whether both collect these pins of the first I/O APIC.
+/// Asserts that both collect these pins of the first I/O APIC.
 pub(crate) fn both_collect(
+    rt: &impl Abort,
     plain: &mut PlainLatch,
     latch: &Latch,
     col: &mut ColSeat,
     wanted: u32,
-) -> bool
+)
     requires plain { 0 < length plain.old.pins }
     requires col { col.old.latch ≡ latch.now.latch }
     ensures plain { (length plain.new.pins ≡ length plain.old.pins) × (plain.new.devices ≡ plain.old.devices) × (plain.new.ended ≡ plain.old.ended) }
@@ -35,7 +39,12 @@ pub(crate) fn both_collect(
 {
     let pins = plain.collect(0);
     let shared = latch.collect(col);
-    pins == wanted && shared == wanted
+    same(
+        rt,
+        "pins that both collect",
+        (pins, shared),
+        (wanted, wanted),
+    );
 }
 
 /// Ends a device in both.
@@ -49,41 +58,41 @@ pub(crate) fn both_end(plain: &mut PlainLatch, latch: &Latch, seat: &mut DevSeat
     latch.end(seat);
 }
 
-/// Whether both say that all devices have ended.
-pub(crate) fn both_ended(plain: &PlainLatch, latch: &Latch, col: &mut ColSeat) -> bool
+/// Asserts what both say of whether all devices have ended.
+pub(crate) fn both_say(
+    rt: &impl Abort,
+    plain: &PlainLatch,
+    latch: &Latch,
+    col: &mut ColSeat,
+    ended: bool,
+)
     requires { col.old.latch ≡ latch.now.latch }
     ensures { (col.new.latch ≡ col.old.latch) × (col.new.io ≡ col.old.io) }
 {
     let shared = latch.ended(col);
-    plain.ended() && shared
+    same(
+        rt,
+        "whether all devices have ended",
+        (plain.ended(), shared),
+        (ended, ended),
+    );
 }
 
-/// Whether neither says that all devices have ended.
-fn both_go_on(plain: &PlainLatch, latch: &Latch, col: &mut ColSeat) -> bool
-    requires { col.old.latch ≡ latch.now.latch }
-    ensures { (col.new.latch ≡ col.old.latch) × (col.new.io ≡ col.old.io) }
-{
-    let shared = latch.ended(col);
-    !plain.ended() && !shared
-}
-
-/// Whether in so many rounds both collect nothing, and neither says that all devices have ended.
+/// Asserts that in so many rounds both collect nothing, and neither says that all devices have ended.
 pub(crate) fn stay_quiet(
+    rt: &impl Abort,
     plain: &mut PlainLatch,
     latch: &Latch,
     col: &mut ColSeat,
     rounds: u8,
-) -> bool
+)
     requires plain { 0 < length plain.old.pins }
     requires col { col.old.latch ≡ latch.now.latch }
     ensures plain { (length plain.new.pins ≡ length plain.old.pins) × (plain.new.devices ≡ plain.old.devices) × (plain.new.ended ≡ plain.old.ended) }
     ensures col { (col.new.latch ≡ col.old.latch) × (col.new.io ≡ col.old.io) }
 {
-    let mut quiet = true;
     for _ in 0..rounds {
-        let none = both_collect(plain, latch, col, 0);
-        let going = both_go_on(plain, latch, col);
-        quiet = quiet && none && going;
+        both_collect(rt, plain, latch, col, 0);
+        both_say(rt, plain, latch, col, false);
     }
-    quiet
 }

@@ -1,19 +1,17 @@
 //! Whole reports.
 
 use crate::boards::{one_level, three_pulses, two_processors};
-use crate::steps::{account_of, reports, stepped};
-use mpb_board::{Agent, Board, Offer};
-use mpb_latch::{Account, Hit};
-use std::test::Fail;
+use crate::steps::{account_of, has_report, is_quiet, opened, silent_account, steps};
+use mpb_board::{Agent, Offer};
+use mpb_latch::Hit;
 
 #[test]
-fn two_processors_start(rt: HostRuntime) -> Result<(), Fail> {
-    let Some(config) = two_processors(rt.alloc())? else {
-        panic!(rt; "no config");
-    };
-    let mut board = Board::new(rt.alloc(), config)?;
+fn two_processors_start(rt: HostRuntime) {
+    let alloc = rt.alloc();
+    let mut board = opened(&rt, alloc, two_processors(alloc));
     let turns = [(Agent::Cpu(0), Offer::Next); 7];
-    assert!(rt; stepped(&mut board, &turns)? && board.quiet());
+    steps(&rt, &mut board, &turns);
+    is_quiet(&rt, &board);
     let want = b"mpboot 1
 entries 7
 0 cpu 00 init 01 : 01=waiting
@@ -28,31 +26,31 @@ state cpu 00 first tpr 00 irr - isr - tmr -
 state cpu 01 started.9F tpr 00 irr - isr - tmr -
 end
 ";
-    let account = account_of(rt.alloc(), &[])?;
-    assert!(rt; reports(rt.alloc(), &board, &account, want)?);
-    Ok(())
+    has_report(&rt, alloc, &board, account_of(alloc, &[]), want);
 }
 
 #[test]
-fn three_devices_pulse_one_pin(rt: HostRuntime) -> Result<(), Fail> {
-    let config = three_pulses(rt.alloc())?;
-    let mut board = Board::new(rt.alloc(), config)?;
+fn three_devices_pulse_one_pin(rt: HostRuntime) {
+    let alloc = rt.alloc();
+    let mut board = opened(&rt, alloc, three_pulses(alloc));
     let boot = (Agent::Cpu(0), Offer::Next);
     let devices = [
         (Agent::Dev(0), Offer::Next),
         (Agent::Dev(1), Offer::Next),
         (Agent::Dev(2), Offer::Next),
     ];
-    assert!(rt; stepped(&mut board, &[boot; 4])? && stepped(&mut board, &devices)?);
-    assert!(rt; stepped(&mut board, &[(Agent::Io(0), Offer::Collect(2))])?);
-    assert!(rt; stepped(&mut board, &devices)?);
+    steps(&rt, &mut board, &[boot; 4]);
+    steps(&rt, &mut board, &devices);
+    steps(&rt, &mut board, &[(Agent::Io(0), Offer::Collect(2))]);
+    steps(&rt, &mut board, &devices);
     let rest = [
         (Agent::Io(0), Offer::Next),
         boot,
         (Agent::Io(0), Offer::Sweep),
         boot,
     ];
-    assert!(rt; stepped(&mut board, &rest)? && board.quiet());
+    steps(&rt, &mut board, &rest);
+    is_quiet(&rt, &board);
     let want = b"mpboot 1
 entries 15
 0 cpu 00 iosel 0 13 : done
@@ -79,20 +77,19 @@ state io 0 line 000000 due 000000 remote 000000
 end
 ";
     let logs = [(1, Hit::New), (1, Hit::Merged), (1, Hit::Merged)];
-    let account = account_of(rt.alloc(), &logs)?;
-    assert!(rt; reports(rt.alloc(), &board, &account, want)?);
-    Ok(())
+    has_report(&rt, alloc, &board, account_of(alloc, &logs), want);
 }
 
 #[test]
-fn registers_that_hold_something(rt: HostRuntime) -> Result<(), Fail> {
-    let config = one_level(rt.alloc())?;
-    let mut board = Board::new(rt.alloc(), config)?;
+fn registers_that_hold_something(rt: HostRuntime) {
+    let alloc = rt.alloc();
+    let mut board = opened(&rt, alloc, one_level(alloc));
     let boot = (Agent::Cpu(2), Offer::Next);
     let device = (Agent::Dev(0), Offer::Next);
-    assert!(rt; stepped(&mut board, &[boot; 4])? && stepped(&mut board, &[device; 2])?);
-    assert!(rt; stepped(&mut board, &[(Agent::Io(1), Offer::Next)])?);
-    assert!(rt; stepped(&mut board, &[boot; 4])?);
+    steps(&rt, &mut board, &[boot; 4]);
+    steps(&rt, &mut board, &[device; 2]);
+    steps(&rt, &mut board, &[(Agent::Io(1), Offer::Next)]);
+    steps(&rt, &mut board, &[boot; 4]);
     let want = b"mpboot 1
 entries 11
 0 cpu 02 iosel 1 31 : done
@@ -114,12 +111,5 @@ state io 0 line 000000 due 000000 remote 000000
 state io 1 line 010000 due 000000 remote 010000
 end
 ";
-    let mut logs = Vec::new(rt.alloc());
-    logs.push(Vec::new(rt.alloc()))?;
-    let account = Account {
-        logs,
-        collected: Vec::new(rt.alloc()),
-    };
-    assert!(rt; reports(rt.alloc(), &board, &account, want)?);
-    Ok(())
+    has_report(&rt, alloc, &board, silent_account(alloc), want);
 }

@@ -1,24 +1,68 @@
 //! A board that is stepped, and the report of it.
 
-use mpb_board::{Agent, Board, Offer};
+ghost use Rattle.std.specs.Prelude.{◌<◌, ◌^◌, IfOk, IfSome};
+ghost use Rattle.mpb_spec.specs.Plan.{plan_size};
+
+use mpb_board::{Agent, Board, Config, Offer};
 use mpb_latch::{Account, Hit, Pulse};
 use mpb_report::report_text;
-use mpt_base::NoMemory;
 use std::alloc::{AllocError, Global};
+use std::fmt::Debug;
+use std::process::Abort;
 
-/// Steps the board by each of these agents and offers, and answers whether each could step.
-pub fn stepped(board: &mut Board, turns: &[(Agent, Offer)]) -> Result<bool, NoMemory> {
-    for (agent, offer) in turns {
-        if !board.can_step(*agent, *offer) {
-            return Ok(false);
-        }
-        let _entry = board.step(*agent, *offer)?;
+/// Asserts that a call gave what was wanted.
+pub(crate) fn same<T: PartialEq + Debug + Drop>(rt: &impl Abort, name: &str, got: T, want: T) {
+    assert_eq!(rt; got, want, "{name}");
+}
+
+/// The board of a config that was made, in its opening state.
+pub(crate) fn opened(
+    rt: &impl Abort,
+    alloc: Global,
+    made: Result<Option<Config>, AllocError>,
+) -> Board
+    requires { IfOk made (λ some. IfSome some (λ c. plan_size c < 2 ^ 32)) }
+{
+    match made {
+        Ok(Some(config)) => opened_as(rt, alloc, config),
+        Ok(None) => panic!(rt; "no config"),
+        Err(_) => panic!(rt; "out of memory"),
     }
-    Ok(true)
+}
+
+fn opened_as(rt: &impl Abort, alloc: Global, config: Config) -> Board
+    requires { plan_size config < 2 ^ 32 }
+{
+    match Board::new(alloc, config) {
+        Ok(board) => board,
+        Err(_) => panic!(rt; "out of memory"),
+    }
+}
+
+/// Steps the board by each of these agents and offers, each of which has to be able to step.
+pub(crate) fn steps(rt: &impl Abort, board: &mut Board, turns: &[(Agent, Offer)]) {
+    for (agent, offer) in turns {
+        step(rt, board, *agent, *offer);
+    }
+}
+
+fn step(rt: &impl Abort, board: &mut Board, agent: Agent, offer: Offer) {
+    let number = board.journal().len();
+    if !board.can_step(agent, offer) {
+        panic!(rt; "no step for entry {number}");
+    }
+    if board.step(agent, offer).is_err() {
+        panic!(rt; "out of memory");
+    }
+}
+
+/// Asserts that no agent may step.
+pub(crate) fn is_quiet(rt: &impl Abort, board: &Board) {
+    same(rt, "whether the board is quiet", board.quiet(), true);
 }
 
 /// An account of these logs, each of one pulse at a pin of the first I/O APIC.
-pub fn account_of(alloc: Global, logs: &[(u8, Hit)]) -> Result<Account, AllocError> {
+pub(crate) fn account_of(alloc: Global, logs: &[(u8, Hit)]) -> Result<Account, AllocError> {
     let mut all = Vec::new(alloc);
     for (pin, hit) in logs {
         let pulse = Pulse { io: 0, pin: *pin };
@@ -30,13 +74,38 @@ pub fn account_of(alloc: Global, logs: &[(u8, Hit)]) -> Result<Account, AllocErr
     })
 }
 
-/// Whether this is the report.
-pub fn reports(
+/// An account of one log, which is empty.
+pub(crate) fn silent_account(alloc: Global) -> Result<Account, AllocError> {
+    let mut logs = Vec::new(alloc);
+    logs.push(Vec::new(alloc))?;
+    Ok(Account {
+        logs,
+        collected: Vec::new(alloc),
+    })
+}
+
+/// Asserts that this is the report of the board and an account that was made.
+pub(crate) fn has_report(
+    rt: &impl Abort,
     alloc: Global,
     board: &Board,
-    account: &Account,
+    made: Result<Account, AllocError>,
     want: &[u8],
-) -> Result<bool, NoMemory> {
-    let text = report_text(alloc, board, account)?;
-    Ok(text.as_slice() == want)
+) {
+    match made {
+        Ok(account) => has_report_of(rt, alloc, board, &account, want),
+        Err(_) => panic!(rt; "out of memory"),
+    }
+}
+
+fn has_report_of(rt: &impl Abort, alloc: Global, board: &Board, account: &Account, want: &[u8]) {
+    match report_text(alloc, board, account) {
+        Ok(text) => same(
+            rt,
+            "whether it is the report",
+            text.as_slice() == want,
+            true,
+        ),
+        Err(_) => panic!(rt; "out of memory"),
+    }
 }

@@ -1,79 +1,108 @@
 //! A local APIC by tables, after Intel SDM volume 3, sections 10.8.3 to 10.8.5.
 
+use crate::harness::same;
 use mpb_lapic::{Accept, Lapic};
+use std::process::Abort;
+
+// Each helper makes one call, and asserts its answer.
+
+fn accepts(rt: &impl Abort, apic: &mut Lapic, vector: u8, level: bool, want: Accept) {
+    let got = apic.accept(vector, level);
+    assert!(rt; got == want, "accept {vector}");
+}
+
+fn takes(rt: &impl Abort, apic: &mut Lapic, want: Option<u8>) {
+    same(rt, "take", apic.take(), want);
+}
+
+fn ends(rt: &impl Abort, apic: &mut Lapic, want: Option<(u8, bool)>) {
+    same(rt, "eoi", apic.eoi(), want);
+}
+
+// Asserts the bits of a vector in IRR, ISR and TMR.
+fn has(rt: &impl Abort, apic: &Lapic, vector: u8, want: (bool, bool, bool)) {
+    let got = (apic.irr(vector), apic.isr(vector), apic.tmr(vector));
+    same(rt, "vector, and its bits", (vector, got), (vector, want));
+}
 
 #[test]
 fn one_history_of_calls(rt: HostRuntime) {
     let mut apic = Lapic::new();
-    assert!(rt; apic.accept(0x21, false) == Accept::Set);
-    assert!(rt; apic.accept(0x21, true) == Accept::Merged);
-    assert_eq!(rt; apic.next(), Some(0x21));
-    assert_eq!(rt; apic.take(), Some(0x21));
-    assert_eq!(rt; apic.ppr(), 0x20);
-    assert!(rt; apic.accept(0x2F, false) == Accept::Set);
-    assert_eq!(rt; apic.take(), None);
-    assert!(rt; apic.accept(0x30, false) == Accept::Set);
-    assert_eq!(rt; apic.take(), Some(0x30));
-    assert_eq!(rt; apic.eoi(), Some((0x30, false)));
-    assert_eq!(rt; apic.eoi(), Some((0x21, true)));
-    assert_eq!(rt; apic.take(), Some(0x2F));
-    assert_eq!(rt; apic.eoi(), Some((0x2F, false)));
-    assert_eq!(rt; apic.eoi(), None);
-    assert!(rt; apic.accept(0x0F, false) == Accept::Illegal);
+    accepts(&rt, &mut apic, 0x21, false, Accept::Set);
+    accepts(&rt, &mut apic, 0x21, true, Accept::Merged);
+    same(&rt, "next", apic.next(), Some(0x21));
+    takes(&rt, &mut apic, Some(0x21));
+    same(&rt, "priority under 21h", apic.ppr(), 0x20);
+    accepts(&rt, &mut apic, 0x2F, false, Accept::Set);
+    takes(&rt, &mut apic, None);
+    accepts(&rt, &mut apic, 0x30, false, Accept::Set);
+    takes(&rt, &mut apic, Some(0x30));
+    ends(&rt, &mut apic, Some((0x30, false)));
+    ends(&rt, &mut apic, Some((0x21, true)));
+    takes(&rt, &mut apic, Some(0x2F));
+    ends(&rt, &mut apic, Some((0x2F, false)));
+    ends(&rt, &mut apic, None);
+    accepts(&rt, &mut apic, 0x0F, false, Accept::Illegal);
     apic.set_tpr(0x35);
-    assert_eq!(rt; (apic.tpr(), apic.ppr()), (0x35, 0x35));
+    same(&rt, "task priority", apic.tpr(), 0x35);
+    same(&rt, "priority of the task", apic.ppr(), 0x35);
+}
+
+fn lawful_vector(rt: &impl Abort, vector: u8) {
+    let mut apic = Lapic::new();
+    accepts(rt, &mut apic, vector, true, Accept::Set);
+    has(rt, &apic, vector, (true, false, true));
+    accepts(rt, &mut apic, vector, false, Accept::Merged);
+    has(rt, &apic, vector, (true, false, false));
+    takes(rt, &mut apic, Some(vector));
+    has(rt, &apic, vector, (false, true, false));
+}
+
+fn illegal_vector(rt: &impl Abort, vector: u8) {
+    let mut apic = Lapic::new();
+    accepts(rt, &mut apic, vector, true, Accept::Illegal);
+    has(rt, &apic, vector, (false, false, false));
+    accepts(rt, &mut apic, vector, false, Accept::Illegal);
+    has(rt, &apic, vector, (false, false, false));
+    takes(rt, &mut apic, None);
+    has(rt, &apic, vector, (false, false, false));
 }
 
 #[test]
 fn vectors_at_the_ends(rt: HostRuntime) {
-    for (vector, lawful) in [(0, false), (15, false), (16, true), (255, true)] {
-        let mut apic = Lapic::new();
-        let first = if lawful { Accept::Set } else { Accept::Illegal };
-        let second = if lawful {
-            Accept::Merged
-        } else {
-            Accept::Illegal
-        };
-        assert!(rt; apic.accept(vector, true) == first, "{vector} at first");
-        assert_eq!(rt;
-            (apic.irr(vector), apic.tmr(vector)),
-            (lawful, lawful),
-            "{vector}"
-        );
-        assert!(rt; apic.accept(vector, false) == second, "{vector} again");
-        assert_eq!(rt;
-            (apic.irr(vector), apic.tmr(vector)),
-            (lawful, false),
-            "{vector}"
-        );
-        let want = if lawful { Some(vector) } else { None };
-        assert_eq!(rt; apic.take(), want, "{vector}");
-        assert_eq!(rt;
-            (apic.irr(vector), apic.isr(vector)),
-            (false, lawful),
-            "{vector}"
-        );
-    }
+    illegal_vector(&rt, 0);
+    illegal_vector(&rt, 15);
+    lawful_vector(&rt, 16);
+    lawful_vector(&rt, 255);
+}
+
+// Asserts the processor priority with a vector in service, under a task priority.
+fn has_priority(rt: &impl Abort, vector: u8, tpr: u8, want: u8) {
+    let mut apic = Lapic::new();
+    apic.accept(vector, false);
+    apic.take();
+    apic.set_tpr(tpr);
+    let got = (vector, tpr, apic.ppr());
+    same(
+        rt,
+        "vector, task priority, priority",
+        got,
+        (vector, tpr, want),
+    );
 }
 
 // Each class of the vector in service, with task priorities at the bounds of the classes beside it.
 #[test]
 fn processor_priority_at_each_class(rt: HostRuntime) {
     for class in 1..16u8 {
-        for (tpr, want) in [
-            (0, class * 16),
-            (class * 16 - 1, class * 16),
-            (class * 16, class * 16),
-            (class * 16 + 7, class * 16 + 7),
-            (class * 16 + 15, class * 16 + 15),
-            (0xFF, 0xFF),
-        ] {
-            let mut apic = Lapic::new();
-            apic.accept(class * 16 + 5, false);
-            apic.take();
-            apic.set_tpr(tpr);
-            assert_eq!(rt; apic.ppr(), want, "class {class} under {tpr}");
-        }
+        let first = class * 16;
+        let served = first + 5;
+        has_priority(&rt, served, 0, first);
+        has_priority(&rt, served, first - 1, first);
+        has_priority(&rt, served, first, first);
+        has_priority(&rt, served, first + 7, first + 7);
+        has_priority(&rt, served, first + 15, first + 15);
+        has_priority(&rt, served, 0xFF, 0xFF);
     }
 }
 
@@ -82,11 +111,13 @@ fn processor_priority_at_each_class(rt: HostRuntime) {
 fn first_vector_that_passes_each_class(rt: HostRuntime) {
     for class in 1..16u8 {
         let mut apic = Lapic::new();
+        let last = class * 16 + 15;
         apic.set_tpr(class * 16);
-        apic.accept(class * 16 + 15, false);
-        assert_eq!(rt; (apic.next(), apic.take()), (None, None), "class {class}");
+        apic.accept(last, false);
+        same(&rt, "next of the same class", apic.next(), None);
+        takes(&rt, &mut apic, None);
         apic.set_tpr(class * 16 - 1);
-        let last = Some(class * 16 + 15);
-        assert_eq!(rt; (apic.next(), apic.take()), (last, last), "class {class}");
+        same(&rt, "next above the class", apic.next(), Some(last));
+        takes(&rt, &mut apic, Some(last));
     }
 }

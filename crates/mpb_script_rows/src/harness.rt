@@ -2,8 +2,9 @@
 
 use mpb_script::{KeyName, ScriptFault, WordWhy, parse};
 use mpb_spec::Agent;
-use std::alloc::Global;
-use std::test::Fail;
+use std::alloc::{AllocError, Global};
+use std::fmt::Debug;
+use std::process::Abort;
 
 /// A text, or words, and the line of the answer.
 pub(crate) type Row = (&'static str, &'static str);
@@ -33,76 +34,94 @@ fn why_name(why: WordWhy) -> &'static str {
     }
 }
 
+/// The line of a wrong word.
+fn word_line(alloc: Global, agent: Agent, index: u32, why: &str) -> Result<String, AllocError> {
+    match agent {
+        Agent::Cpu(id) => format!(in alloc; "word cpu {id:02X} index {index} {why}"),
+        Agent::Io(place) => format!(in alloc; "word io {place} index {index} {why}"),
+        Agent::Dev(number) => format!(in alloc; "word dev {number} index {index} {why}"),
+    }
+}
+
 /// The line of a fault.
-fn fault_line(alloc: Global, fault: ScriptFault) -> Result<String, Fail> {
-    let line = match fault {
-        ScriptFault::NotToml => String::from_str(alloc, "not toml")?,
-        ScriptFault::Key { name } => format!(in alloc; "key {}", key_name(name))?,
-        ScriptFault::Many { n } => format!(in alloc; "many {n}")?,
-        ScriptFault::Word { agent, index, why } => {
-            let why = why_name(why);
-            match agent {
-                Agent::Cpu(id) => format!(in alloc; "word cpu {id:02X} index {index} {why}")?,
-                Agent::Io(place) => format!(in alloc; "word io {place} index {index} {why}")?,
-                Agent::Dev(number) => format!(in alloc; "word dev {number} index {index} {why}")?,
-            }
-        }
-        ScriptFault::NoMemory => String::from_str(alloc, "no memory")?,
-    };
-    Ok(line)
+fn fault_line(alloc: Global, fault: ScriptFault) -> Result<String, AllocError> {
+    match fault {
+        ScriptFault::NotToml => String::from_str(alloc, "not toml"),
+        ScriptFault::Key { name } => format!(in alloc; "key {}", key_name(name)),
+        ScriptFault::Many { n } => format!(in alloc; "many {n}"),
+        ScriptFault::Word { agent, index, why } => word_line(alloc, agent, index, why_name(why)),
+        ScriptFault::NoMemory => String::from_str(alloc, "no memory"),
+    }
 }
 
 /// The answer to a text, as a line.
-pub(crate) fn answer_line(alloc: Global, text: &[u8]) -> Result<String, Fail> {
+pub(crate) fn answer_line(alloc: Global, text: &[u8]) -> Result<String, AllocError> {
     match parse(alloc, text) {
-        Ok(_) => Ok(String::from_str(alloc, "script")?),
+        Ok(_) => String::from_str(alloc, "script"),
         Err(fault) => fault_line(alloc, fault),
     }
 }
 
-/// The text of the first row that has another answer.
-pub(crate) fn first_wrong(alloc: Global, rows: &[Row]) -> Result<Option<&'static str>, Fail> {
-    for (text, line) in rows {
-        if answer_line(alloc, text.as_bytes())?.as_str() != *line {
-            return Ok(Some(*text));
-        }
+/// Asserts that a call gave what was wanted.
+pub(crate) fn same<T: PartialEq + Debug + Drop>(rt: &impl Abort, name: &str, got: T, want: T) {
+    assert_eq!(rt; got, want, "{name}");
+}
+
+/// Asserts the answer to a text, which has this name.
+pub(crate) fn answers(rt: &impl Abort, alloc: Global, name: &str, text: &[u8], line: &str) {
+    match answer_line(alloc, text) {
+        Ok(answer) => is_answered(rt, name, answer.as_str(), line),
+        Err(_) => panic!(rt; "out of memory"),
     }
-    Ok(None)
+}
+
+fn is_answered(rt: &impl Abort, name: &str, answer: &str, line: &str) {
+    assert!(rt; answer == line, "{name}: {answer}, and not {line}");
+}
+
+/// Asserts the answer to the text of each row.
+pub(crate) fn answers_texts(rt: &impl Abort, alloc: Global, rows: &[Row]) {
+    for (text, line) in rows {
+        answers(rt, alloc, text, text.as_bytes(), line);
+    }
 }
 
 /// The script whose processor 7 has this array of words.
-fn cpu_script(alloc: Global, words: &str) -> Result<String, Fail> {
-    Ok(format!(in alloc; "page = 1\ncpu = [{{ id = 7, words = [{words}] }}]")?)
+fn cpu_script(alloc: Global, words: &str) -> Result<String, AllocError> {
+    format!(in alloc; "page = 1\ncpu = [{{ id = 7, words = [{words}] }}]")
 }
 
 /// The script whose third device has this array of words.
-fn device_script(alloc: Global, words: &str) -> Result<String, Fail> {
-    Ok(format!(in alloc;
+fn device_script(alloc: Global, words: &str) -> Result<String, AllocError> {
+    format!(in alloc;
         "page = 1\ndevice = [{{ words = [] }}, {{ words = [] }}, {{ words = [{words}] }}]"
-    )?)
+    )
 }
 
-/// The first row whose words, in a processor's program, have another answer.
-pub(crate) fn first_wrong_cpu(alloc: Global, rows: &[Row]) -> Result<Option<&'static str>, Fail> {
-    for (words, line) in rows {
-        let text = cpu_script(alloc, words)?;
-        if answer_line(alloc, text.as_str().as_bytes())?.as_str() != *line {
-            return Ok(Some(*words));
-        }
-    }
-    Ok(None)
-}
-
-/// The first row whose words, in a device's program, have another answer.
-pub(crate) fn first_wrong_device(
+/// Asserts the answer to a script that was made of these words.
+fn answers_words(
+    rt: &impl Abort,
     alloc: Global,
-    rows: &[Row],
-) -> Result<Option<&'static str>, Fail> {
-    for (words, line) in rows {
-        let text = device_script(alloc, words)?;
-        if answer_line(alloc, text.as_str().as_bytes())?.as_str() != *line {
-            return Ok(Some(*words));
-        }
+    words: &str,
+    made: Result<String, AllocError>,
+    line: &str,
+) {
+    match made {
+        Ok(text) => answers(rt, alloc, words, text.as_str().as_bytes(), line),
+        Err(_) => panic!(rt; "out of memory"),
     }
-    Ok(None)
+}
+
+/// Asserts the answer to the words of each row in a processor's program.
+pub(crate) fn answers_cpu_words(rt: &impl Abort, alloc: Global, rows: &[Row]) {
+    for (words, line) in rows {
+        answers_words(rt, alloc, words, cpu_script(alloc, words), line);
+    }
+}
+
+/// Asserts the answer to the words of each row in a device's program.
+pub(crate) fn answers_device_words(rt: &impl Abort, alloc: Global, rows: &[Row]) {
+    for (words, line) in rows {
+        answers_words(rt, alloc, words, device_script(alloc, words), line);
+    }
 }

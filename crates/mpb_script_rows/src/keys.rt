@@ -1,7 +1,6 @@
 //! Texts that are no document, each key with its wrong kinds, and which of two wrong keys is named.
 
-use crate::harness::{Row, answer_line, first_wrong};
-use std::test::Fail;
+use crate::harness::{Row, answers, answers_texts};
 
 const NO_DOCUMENTS: &[Row] = &[
     ("page =", "not toml"),
@@ -167,22 +166,20 @@ const PAIRS: &[Row] = &[
 ];
 
 #[test]
-fn each_key(rt: HostRuntime) -> Result<(), Fail> {
-    for rows in [NO_DOCUMENTS, PAGES, NUMBERS, TABLES, FURTHER_KEYS] {
-        assert_eq!(rt; first_wrong(rt.alloc(), rows)?, None);
-    }
-    Ok(())
+fn each_key(rt: HostRuntime) {
+    answers_texts(&rt, rt.alloc(), NO_DOCUMENTS);
+    answers_texts(&rt, rt.alloc(), PAGES);
+    answers_texts(&rt, rt.alloc(), NUMBERS);
+    answers_texts(&rt, rt.alloc(), TABLES);
+    answers_texts(&rt, rt.alloc(), FURTHER_KEYS);
 }
 
 #[test]
-fn the_first_of_two_wrong_keys(rt: HostRuntime) -> Result<(), Fail> {
-    assert_eq!(rt; first_wrong(rt.alloc(), PAIRS)?, None);
-    Ok(())
+fn the_first_of_two_wrong_keys(rt: HostRuntime) {
+    answers_texts(&rt, rt.alloc(), PAIRS);
 }
 
 #[test]
-fn a_text_that_is_no_utf_8(rt: HostRuntime) -> Result<(), Fail> {
-    let line = answer_line(rt.alloc(), b"page = 1 # \xFF")?;
-    assert_eq!(rt; line.as_str(), "not toml");
-    Ok(())
+fn a_text_that_is_no_utf_8(rt: HostRuntime) {
+    answers(&rt, rt.alloc(), "no UTF-8", b"page = 1 # \xFF", "not toml");
 }

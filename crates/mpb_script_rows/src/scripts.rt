@@ -1,17 +1,45 @@
 //! Scripts that are read, value by value.
 
+use crate::harness::same;
 use mpb_script::{CpuScript, Script, ScriptFault, parse};
 use mpb_spec::{DevWord, Op};
 use std::alloc::Global;
-use std::test::Fail;
+use std::process::Abort;
 
-/// The script of a text that is one.
-fn script_of(alloc: Global, text: &str) -> Result<Script, Fail> {
+/// The script of a text that has to be one.
+fn script_of(rt: &impl Abort, alloc: Global, text: &str) -> Script {
     match parse(alloc, text.as_bytes()) {
-        Ok(script) => Ok(script),
-        Err(ScriptFault::NoMemory) => Err("no memory".into()),
-        Err(_) => Err("refused".into()),
+        Ok(script) => script,
+        Err(ScriptFault::NoMemory) => panic!(rt; "no memory"),
+        Err(_) => panic!(rt; "refused"),
     }
+}
+
+/// Asserts the page, the edge/level control register, and how many processors and devices have programs.
+fn has_numbers(rt: &impl Abort, script: &Script, page: u8, elcr: u16, cpus: usize, devices: usize) {
+    same(rt, "page", script.page, page);
+    same(rt, "elcr", script.elcr, elcr);
+    same(rt, "processors", script.cpus.as_slice().len(), cpus);
+    same(rt, "devices", script.devices.as_slice().len(), devices);
+}
+
+/// Asserts that the script names these processors as present.
+fn has_present(rt: &impl Abort, script: &Script, ids: &[u8]) {
+    let named = match &script.present {
+        Some(found) => found.as_slice() == ids,
+        None => false,
+    };
+    same(rt, "the processors that are present", named, true);
+}
+
+/// Asserts that the script names no processors as present.
+fn has_no_present(rt: &impl Abort, script: &Script) {
+    same(
+        rt,
+        "whether processors are named",
+        script.present.is_some(),
+        false,
+    );
 }
 
 /// Whether a processor has this id and this program.
@@ -19,17 +47,36 @@ fn is_cpu(cpu: &CpuScript, id: u8, program: &[Op]) -> bool {
     cpu.id == id && cpu.words.as_slice() == program
 }
 
-/// Whether the script names these processors as present.
-fn has_present(script: &Script, present: Option<&[u8]>) -> bool {
-    match (&script.present, present) {
-        (Some(found), Some(ids)) => found.as_slice() == ids,
-        (None, None) => true,
-        _ => false,
-    }
+/// Asserts the id and the program of the processor at a place.
+fn has_cpu(rt: &impl Abort, script: &Script, place: usize, id: u8, program: &[Op]) {
+    let is = match script.cpus.as_slice().get(place) {
+        Some(cpu) => is_cpu(cpu, id, program),
+        None => false,
+    };
+    same(
+        rt,
+        "a processor, and whether it is as wanted",
+        (place, is),
+        (place, true),
+    );
+}
+
+/// Asserts the program of the device at a place.
+fn has_device(rt: &impl Abort, script: &Script, place: usize, words: &[DevWord]) {
+    let is = match script.devices.as_slice().get(place) {
+        Some(device) => device.as_slice() == words,
+        None => false,
+    };
+    same(
+        rt,
+        "a device, and whether it is as wanted",
+        (place, is),
+        (place, true),
+    );
 }
 
 #[test]
-fn every_word(rt: HostRuntime) -> Result<(), Fail> {
+fn every_word(rt: HostRuntime) {
     let text = "page = 0x9F
 elcr = 32
 present = [0, 7, 7]
@@ -45,10 +92,9 @@ words = []
 [[device]]
 words = [\"pulse 0 23\", \"high 1 2\", \"low 3 0\"]
 ";
-    let script = script_of(rt.alloc(), text)?;
-    assert_eq!(rt; script.page, 0x9F);
-    assert_eq!(rt; script.elcr, 32);
-    assert!(rt; has_present(&script, Some(&[0, 7, 7])));
+    let script = script_of(&rt, rt.alloc(), text);
+    has_numbers(&rt, &script, 0x9F, 32, 2, 1);
+    has_present(&rt, &script, &[0, 7, 7]);
     let program = [
         Op::Ipi(1, 255),
         Op::Nmi(2),
@@ -61,54 +107,36 @@ words = [\"pulse 0 23\", \"high 1 2\", \"low 3 0\"]
         Op::IoRead(1),
         Op::Pause(1_000_000),
     ];
-    match script.cpus.as_slice() {
-        [first, second] => {
-            assert!(rt; is_cpu(first, 7, &program));
-            assert!(rt; is_cpu(second, 0, &[]));
-        }
-        _ => return Err("two processors have programs".into()),
-    }
+    has_cpu(&rt, &script, 0, 7, &program);
+    has_cpu(&rt, &script, 1, 0, &[]);
     let words = [
         DevWord::Pulse(0, 23),
         DevWord::High(1, 2),
         DevWord::Low(3, 0),
     ];
-    match script.devices.as_slice() {
-        [device] => assert!(rt; device.as_slice() == words.as_slice()),
-        _ => return Err("one device has a program".into()),
-    }
-    Ok(())
+    has_device(&rt, &script, 0, &words);
 }
 
 #[test]
-fn three_devices_at_one_pin(rt: HostRuntime) -> Result<(), Fail> {
+fn three_devices_at_one_pin(rt: HostRuntime) {
     let text = "page = 0x9F
 cpu = [{ id = 0, words = [\"take\", \"eoi\"] }]
 device = [{ words = [\"pulse 0 1\"] }, { words = [\"pulse 0 1\"] }, { words = [\"pulse 0 1\"] }]";
-    let script = script_of(rt.alloc(), text)?;
-    assert_eq!(rt; script.elcr, 0);
-    assert!(rt; has_present(&script, None));
-    match script.cpus.as_slice() {
-        [cpu] => assert!(rt; is_cpu(cpu, 0, &[Op::Take, Op::Eoi])),
-        _ => return Err("one processor has a program".into()),
-    }
-    assert_eq!(rt; script.devices.as_slice().len(), 3);
-    for device in script.devices.as_slice() {
-        let words = [DevWord::Pulse(0, 1)];
-        assert!(rt; device.as_slice() == words.as_slice());
-    }
-    Ok(())
+    let script = script_of(&rt, rt.alloc(), text);
+    has_numbers(&rt, &script, 0x9F, 0, 1, 3);
+    has_no_present(&rt, &script);
+    has_cpu(&rt, &script, 0, 0, &[Op::Take, Op::Eoi]);
+    let words = [DevWord::Pulse(0, 1)];
+    has_device(&rt, &script, 0, &words);
+    has_device(&rt, &script, 1, &words);
+    has_device(&rt, &script, 2, &words);
 }
 
 #[test]
-fn a_page_alone(rt: HostRuntime) -> Result<(), Fail> {
-    let script = script_of(rt.alloc(), "page = 0xC0")?;
-    assert_eq!(rt; script.page, 0xC0);
-    assert_eq!(rt; script.elcr, 0);
-    assert!(rt; has_present(&script, None));
-    assert_eq!(rt; script.cpus.as_slice().len(), 0);
-    assert_eq!(rt; script.devices.as_slice().len(), 0);
-    let nobody = script_of(rt.alloc(), "page = 0xC0\npresent = []")?;
-    assert!(rt; has_present(&nobody, Some(&[])));
-    Ok(())
+fn a_page_alone(rt: HostRuntime) {
+    let script = script_of(&rt, rt.alloc(), "page = 0xC0");
+    has_numbers(&rt, &script, 0xC0, 0, 0, 0);
+    has_no_present(&rt, &script);
+    let nobody = script_of(&rt, rt.alloc(), "page = 0xC0\npresent = []");
+    has_present(&rt, &nobody, &[]);
 }

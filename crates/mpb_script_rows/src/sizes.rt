@@ -1,7 +1,8 @@
 //! How many words a script may have, and want of memory.
 
-use crate::harness::answer_line;
-use std::alloc::Global;
+use crate::harness::{answer_line, answers};
+use std::alloc::{AllocError, Global};
+use std::process::Abort;
 use std::test::Fail;
 
 /// The text of a script with as many words for a processor and for a device. The first key is this one.
@@ -10,7 +11,7 @@ fn script_of(
     first: &str,
     cpu: (usize, &str),
     device: (usize, &str),
-) -> Result<Vec<u8>, Fail> {
+) -> Result<Vec<u8>, AllocError> {
     let mut text = Vec::from_slice(alloc, first.as_bytes())?;
     text.extend_from_slice(b"\n[[cpu]]\nid = 0\nwords = [")?;
     push_words(&mut text, cpu)?;
@@ -21,7 +22,7 @@ fn script_of(
 }
 
 /// Writes a word as often as is said.
-fn push_words(text: &mut Vec<u8>, words: (usize, &str)) -> Result<(), Fail> {
+fn push_words(text: &mut Vec<u8>, words: (usize, &str)) -> Result<(), AllocError> {
     for _ in 0..words.0 {
         text.extend_from_slice(b"\"")?;
         text.extend_from_slice(words.1.as_bytes())?;
@@ -55,14 +56,20 @@ const SIZES: &[Sizes] = &[
     ),
 ];
 
-#[test]
-fn counts_of_words(rt: HostRuntime) -> Result<(), Fail> {
-    for (first, cpu, device, line) in SIZES {
-        let text = script_of(rt.alloc(), first, *cpu, *device)?;
-        let answer = answer_line(rt.alloc(), text.as_slice())?;
-        assert_eq!(rt; answer.as_str(), *line);
+/// Asserts the answer to a script of these sizes.
+fn answers_sizes(rt: &impl Abort, alloc: Global, sizes: &Sizes) {
+    let (first, cpu, device, line) = *sizes;
+    match script_of(alloc, first, cpu, device) {
+        Ok(text) => answers(rt, alloc, line, text.as_slice(), line),
+        Err(_) => panic!(rt; "out of memory"),
     }
-    Ok(())
+}
+
+#[test]
+fn counts_of_words(rt: HostRuntime) {
+    for sizes in SIZES {
+        answers_sizes(&rt, rt.alloc(), sizes);
+    }
 }
 
 /// It passes too where an allocation fails: the answer is then want of memory.

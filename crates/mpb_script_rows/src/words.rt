@@ -1,7 +1,6 @@
 //! Each word with its wrong names, counts, numbers and ranges, and which of two causes is named.
 
-use crate::harness::{Row, first_wrong, first_wrong_cpu, first_wrong_device};
-use std::test::Fail;
+use crate::harness::{Row, answers_cpu_words, answers_device_words, answers_texts};
 
 const CPU_NAMES: &[Row] = &[
     ("\"jump\"", "word cpu 07 index 0 Name"),
@@ -181,22 +180,20 @@ const PROGRAMS: &[Row] = &[
 ];
 
 #[test]
-fn each_word_of_a_processor(rt: HostRuntime) -> Result<(), Fail> {
-    for rows in [CPU_NAMES, CPU_COUNTS, CPU_NUMBERS, CPU_RANGES] {
-        assert_eq!(rt; first_wrong_cpu(rt.alloc(), rows)?, None);
-    }
-    Ok(())
+fn each_word_of_a_processor(rt: HostRuntime) {
+    answers_cpu_words(&rt, rt.alloc(), CPU_NAMES);
+    answers_cpu_words(&rt, rt.alloc(), CPU_COUNTS);
+    answers_cpu_words(&rt, rt.alloc(), CPU_NUMBERS);
+    answers_cpu_words(&rt, rt.alloc(), CPU_RANGES);
 }
 
 #[test]
-fn each_word_of_a_device(rt: HostRuntime) -> Result<(), Fail> {
-    assert_eq!(rt; first_wrong_device(rt.alloc(), DEVICE_WORDS)?, None);
-    Ok(())
+fn each_word_of_a_device(rt: HostRuntime) {
+    answers_device_words(&rt, rt.alloc(), DEVICE_WORDS);
 }
 
 #[test]
-fn the_first_of_two_wrong_words(rt: HostRuntime) -> Result<(), Fail> {
-    assert_eq!(rt; first_wrong_cpu(rt.alloc(), CPU_PAIRS)?, None);
-    assert_eq!(rt; first_wrong(rt.alloc(), PROGRAMS)?, None);
-    Ok(())
+fn the_first_of_two_wrong_words(rt: HostRuntime) {
+    answers_cpu_words(&rt, rt.alloc(), CPU_PAIRS);
+    answers_texts(&rt, rt.alloc(), PROGRAMS);
 }
