@@ -1,13 +1,16 @@
 //! The sixteen faults, one image for each and more, and which of two faults is named.
 
-use crate::harness::{Piece, Row, SMALL_POINTER as POINTER, TABLE, WORD, first_wrong};
+use crate::harness::{Piece, Row, SMALL_POINTER as POINTER, TABLE, WORD, first_wrong, same};
 use std::test::Fail;
 
 /// The length of most images: the table ends there.
 const SMALL: usize = 0x550;
 
 /// The table, directly after the pointer.
-const AT: Piece = (0x510, TABLE);
+const AT: Piece = Piece {
+    at: 0x510,
+    bytes: TABLE,
+};
 
 const REASONS: &[Row] = &[
     Row {
@@ -15,10 +18,10 @@ const REASONS: &[Row] = &[
         size: SMALL,
         pieces: &[
             WORD,
-            (
-                0x500,
-                b"_MP_\x10\x05\x00\x00\x01\x01\x8E\x00\x00\x00\x00\x00",
-            ),
+            Piece {
+                at: 0x500,
+                bytes: b"_MP_\x10\x05\x00\x00\x01\x01\x8E\x00\x00\x00\x00\x00",
+            },
             AT,
         ],
         status: 7,
@@ -27,7 +30,15 @@ const REASONS: &[Row] = &[
     Row {
         name: "the table's revision is 1",
         size: SMALL,
-        pieces: &[WORD, POINTER, AT, (0x516, b"\x01")],
+        pieces: &[
+            WORD,
+            POINTER,
+            AT,
+            Piece {
+                at: 0x516,
+                bytes: b"\x01",
+            },
+        ],
         status: 7,
         text: "mptab: fault 1 BadRevision at 00000516\n",
     },
@@ -36,10 +47,10 @@ const REASONS: &[Row] = &[
         size: SMALL,
         pieces: &[
             WORD,
-            (
-                0x500,
-                b"_MP_\x10\x05\x00\x00\x01\x04\x83\x08\x00\x00\x00\x00",
-            ),
+            Piece {
+                at: 0x500,
+                bytes: b"_MP_\x10\x05\x00\x00\x01\x04\x83\x08\x00\x00\x00\x00",
+            },
             AT,
         ],
         status: 7,
@@ -50,10 +61,10 @@ const REASONS: &[Row] = &[
         size: SMALL,
         pieces: &[
             WORD,
-            (
-                0x500,
-                b"_MP_\x00\x00\x00\x00\x01\x04\xA0\x00\x00\x00\x00\x00",
-            ),
+            Piece {
+                at: 0x500,
+                bytes: b"_MP_\x00\x00\x00\x00\x01\x04\xA0\x00\x00\x00\x00\x00",
+            },
             AT,
         ],
         status: 7,
@@ -64,10 +75,10 @@ const REASONS: &[Row] = &[
         size: SMALL,
         pieces: &[
             WORD,
-            (
-                0x500,
-                b"_MP_\x25\x05\x00\x00\x01\x04\x76\x00\x00\x00\x00\x00",
-            ),
+            Piece {
+                at: 0x500,
+                bytes: b"_MP_\x25\x05\x00\x00\x01\x04\x76\x00\x00\x00\x00\x00",
+            },
             AT,
         ],
         status: 7,
@@ -78,10 +89,10 @@ const REASONS: &[Row] = &[
         size: SMALL,
         pieces: &[
             WORD,
-            (
-                0x500,
-                b"_MP_\x24\x05\x00\x00\x01\x04\x77\x00\x00\x00\x00\x00",
-            ),
+            Piece {
+                at: 0x500,
+                bytes: b"_MP_\x24\x05\x00\x00\x01\x04\x77\x00\x00\x00\x00\x00",
+            },
             AT,
         ],
         status: 7,
@@ -90,77 +101,189 @@ const REASONS: &[Row] = &[
     Row {
         name: "the last letter of the signature is small",
         size: SMALL,
-        pieces: &[WORD, POINTER, AT, (0x513, b"\x70")],
+        pieces: &[
+            WORD,
+            POINTER,
+            AT,
+            Piece {
+                at: 0x513,
+                bytes: b"\x70",
+            },
+        ],
         status: 7,
         text: "mptab: fault 5 BadSignature at 00000510\n",
     },
     Row {
         name: "base length 43",
         size: SMALL,
-        pieces: &[WORD, POINTER, AT, (0x514, b"\x2B")],
+        pieces: &[
+            WORD,
+            POINTER,
+            AT,
+            Piece {
+                at: 0x514,
+                bytes: b"\x2B",
+            },
+        ],
         status: 7,
         text: "mptab: fault 6 ShortLength at 00000514\n",
     },
     Row {
         name: "base length 0",
         size: SMALL,
-        pieces: &[WORD, POINTER, AT, (0x514, b"\x00")],
+        pieces: &[
+            WORD,
+            POINTER,
+            AT,
+            Piece {
+                at: 0x514,
+                bytes: b"\x00",
+            },
+        ],
         status: 7,
         text: "mptab: fault 6 ShortLength at 00000514\n",
     },
     Row {
         name: "base length 65 passes the image",
         size: SMALL,
-        pieces: &[WORD, POINTER, AT, (0x514, b"\x41")],
+        pieces: &[
+            WORD,
+            POINTER,
+            AT,
+            Piece {
+                at: 0x514,
+                bytes: b"\x41",
+            },
+        ],
         status: 7,
         text: "mptab: fault 7 LengthOutside at 00000514\n",
     },
     Row {
         name: "the sum of the base is 1",
         size: SMALL,
-        pieces: &[WORD, POINTER, AT, (0x517, b"\x9A")],
+        pieces: &[
+            WORD,
+            POINTER,
+            AT,
+            Piece {
+                at: 0x517,
+                bytes: b"\x9A",
+            },
+        ],
         status: 7,
         text: "mptab: fault 8 BadSum at 00000517\n",
     },
     Row {
         name: "count 0",
         size: SMALL,
-        pieces: &[WORD, POINTER, AT, (0x532, b"\x00"), (0x517, b"\x9A")],
+        pieces: &[
+            WORD,
+            POINTER,
+            AT,
+            Piece {
+                at: 0x532,
+                bytes: b"\x00",
+            },
+            Piece {
+                at: 0x517,
+                bytes: b"\x9A",
+            },
+        ],
         status: 7,
         text: "mptab: fault 9 BadCount at 00000532\n",
     },
     Row {
         name: "count 257: both bytes count",
         size: SMALL,
-        pieces: &[WORD, POINTER, AT, (0x533, b"\x01"), (0x517, b"\x98")],
+        pieces: &[
+            WORD,
+            POINTER,
+            AT,
+            Piece {
+                at: 0x533,
+                bytes: b"\x01",
+            },
+            Piece {
+                at: 0x517,
+                bytes: b"\x98",
+            },
+        ],
         status: 7,
         text: "mptab: fault 9 BadCount at 00000532\n",
     },
     Row {
         name: "entry type 5",
         size: SMALL,
-        pieces: &[WORD, POINTER, AT, (0x53C, b"\x05"), (0x517, b"\x94")],
+        pieces: &[
+            WORD,
+            POINTER,
+            AT,
+            Piece {
+                at: 0x53C,
+                bytes: b"\x05",
+            },
+            Piece {
+                at: 0x517,
+                bytes: b"\x94",
+            },
+        ],
         status: 7,
         text: "mptab: fault 10 UnknownEntry at 0000053C\n",
     },
     Row {
         name: "entry type 80h is no base entry",
         size: SMALL,
-        pieces: &[WORD, POINTER, AT, (0x53C, b"\x80"), (0x517, b"\x19")],
+        pieces: &[
+            WORD,
+            POINTER,
+            AT,
+            Piece {
+                at: 0x53C,
+                bytes: b"\x80",
+            },
+            Piece {
+                at: 0x517,
+                bytes: b"\x19",
+            },
+        ],
         status: 7,
         text: "mptab: fault 10 UnknownEntry at 0000053C\n",
     },
     Row {
         name: "base length 63 cuts the processor",
         size: SMALL,
-        pieces: &[WORD, POINTER, AT, (0x514, b"\x3F"), (0x517, b"\x9A")],
+        pieces: &[
+            WORD,
+            POINTER,
+            AT,
+            Piece {
+                at: 0x514,
+                bytes: b"\x3F",
+            },
+            Piece {
+                at: 0x517,
+                bytes: b"\x9A",
+            },
+        ],
         status: 7,
         text: "mptab: fault 11 CutEntry at 0000053C\n",
     },
     Row {
         name: "extended length 1 passes the image",
         size: SMALL,
-        pieces: &[WORD, POINTER, AT, (0x538, b"\x01"), (0x517, b"\x98")],
+        pieces: &[
+            WORD,
+            POINTER,
+            AT,
+            Piece {
+                at: 0x538,
+                bytes: b"\x01",
+            },
+            Piece {
+                at: 0x517,
+                bytes: b"\x98",
+            },
+        ],
         status: 7,
         text: "mptab: fault 12 ExtOutside at 00000538\n",
     },
@@ -171,9 +294,18 @@ const REASONS: &[Row] = &[
             WORD,
             POINTER,
             AT,
-            (0x538, b"\x02\x00\x00"),
-            (0x517, b"\x97"),
-            (0x550, b"\xC8\x02"),
+            Piece {
+                at: 0x538,
+                bytes: b"\x02\x00\x00",
+            },
+            Piece {
+                at: 0x517,
+                bytes: b"\x97",
+            },
+            Piece {
+                at: 0x550,
+                bytes: b"\xC8\x02",
+            },
         ],
         status: 7,
         text: "mptab: fault 13 BadExtSum at 0000053A\n",
@@ -181,7 +313,19 @@ const REASONS: &[Row] = &[
     Row {
         name: "the extended checksum is 1 and the extended part is empty",
         size: SMALL,
-        pieces: &[WORD, POINTER, AT, (0x53A, b"\x01"), (0x517, b"\x98")],
+        pieces: &[
+            WORD,
+            POINTER,
+            AT,
+            Piece {
+                at: 0x53A,
+                bytes: b"\x01",
+            },
+            Piece {
+                at: 0x517,
+                bytes: b"\x98",
+            },
+        ],
         status: 7,
         text: "mptab: fault 13 BadExtSum at 0000053A\n",
     },
@@ -192,9 +336,18 @@ const REASONS: &[Row] = &[
             WORD,
             POINTER,
             AT,
-            (0x538, b"\x02\x00\x7F"),
-            (0x517, b"\x18"),
-            (0x550, b"\x7F\x02"),
+            Piece {
+                at: 0x538,
+                bytes: b"\x02\x00\x7F",
+            },
+            Piece {
+                at: 0x517,
+                bytes: b"\x18",
+            },
+            Piece {
+                at: 0x550,
+                bytes: b"\x7F\x02",
+            },
         ],
         status: 7,
         text: "mptab: fault 14 BadExtType at 00000550\n",
@@ -206,9 +359,18 @@ const REASONS: &[Row] = &[
             WORD,
             POINTER,
             AT,
-            (0x538, b"\x02\x00\x37"),
-            (0x517, b"\x60"),
-            (0x550, b"\xC8\x01"),
+            Piece {
+                at: 0x538,
+                bytes: b"\x02\x00\x37",
+            },
+            Piece {
+                at: 0x517,
+                bytes: b"\x60",
+            },
+            Piece {
+                at: 0x550,
+                bytes: b"\xC8\x01",
+            },
         ],
         status: 7,
         text: "mptab: fault 15 BadExtLength at 00000551\n",
@@ -220,9 +382,18 @@ const REASONS: &[Row] = &[
             WORD,
             POINTER,
             AT,
-            (0x538, b"\x01\x00\x38"),
-            (0x517, b"\x60"),
-            (0x550, b"\xC8"),
+            Piece {
+                at: 0x538,
+                bytes: b"\x01\x00\x38",
+            },
+            Piece {
+                at: 0x517,
+                bytes: b"\x60",
+            },
+            Piece {
+                at: 0x550,
+                bytes: b"\xC8",
+            },
         ],
         status: 7,
         text: "mptab: fault 16 CutExtEntry at 00000550\n",
@@ -235,10 +406,10 @@ const PAIRS: &[Row] = &[
         size: SMALL,
         pieces: &[
             WORD,
-            (
-                0x500,
-                b"_MP_\x10\x05\x00\x00\x01\x01\x86\x08\x00\x00\x00\x00",
-            ),
+            Piece {
+                at: 0x500,
+                bytes: b"_MP_\x10\x05\x00\x00\x01\x01\x86\x08\x00\x00\x00\x00",
+            },
             AT,
         ],
         status: 7,
@@ -249,10 +420,10 @@ const PAIRS: &[Row] = &[
         size: SMALL,
         pieces: &[
             WORD,
-            (
-                0x500,
-                b"_MP_\x00\x00\x00\x00\x01\x01\xA3\x00\x00\x00\x00\x00",
-            ),
+            Piece {
+                at: 0x500,
+                bytes: b"_MP_\x00\x00\x00\x00\x01\x01\xA3\x00\x00\x00\x00\x00",
+            },
             AT,
         ],
         status: 7,
@@ -263,10 +434,10 @@ const PAIRS: &[Row] = &[
         size: SMALL,
         pieces: &[
             WORD,
-            (
-                0x500,
-                b"_MP_\x25\x05\x00\x00\x01\x01\x79\x00\x00\x00\x00\x00",
-            ),
+            Piece {
+                at: 0x500,
+                bytes: b"_MP_\x25\x05\x00\x00\x01\x01\x79\x00\x00\x00\x00\x00",
+            },
             AT,
         ],
         status: 7,
@@ -277,10 +448,10 @@ const PAIRS: &[Row] = &[
         size: SMALL,
         pieces: &[
             WORD,
-            (
-                0x500,
-                b"_MP_\x00\x00\x00\x00\x01\x04\x98\x08\x00\x00\x00\x00",
-            ),
+            Piece {
+                at: 0x500,
+                bytes: b"_MP_\x00\x00\x00\x00\x01\x04\x98\x08\x00\x00\x00\x00",
+            },
             AT,
         ],
         status: 7,
@@ -291,10 +462,10 @@ const PAIRS: &[Row] = &[
         size: SMALL,
         pieces: &[
             WORD,
-            (
-                0x500,
-                b"_MP_\x25\x05\x00\x00\x01\x04\x6E\x08\x00\x00\x00\x00",
-            ),
+            Piece {
+                at: 0x500,
+                bytes: b"_MP_\x25\x05\x00\x00\x01\x04\x6E\x08\x00\x00\x00\x00",
+            },
             AT,
         ],
         status: 7,
@@ -305,10 +476,10 @@ const PAIRS: &[Row] = &[
         size: SMALL,
         pieces: &[
             WORD,
-            (
-                0x500,
-                b"_MP_\x10\x05\x00\x00\x01\x04\x84\x07\x00\x00\x00\x00",
-            ),
+            Piece {
+                at: 0x500,
+                bytes: b"_MP_\x10\x05\x00\x00\x01\x04\x84\x07\x00\x00\x00\x00",
+            },
         ],
         status: 0,
         text: "mptable 1
@@ -321,11 +492,14 @@ end
         size: SMALL,
         pieces: &[
             WORD,
-            (
-                0x500,
-                b"_MP_\x50\x04\x00\x00\x01\x04\x4C\x00\x00\x00\x00\x00",
-            ),
-            (0x450, TABLE),
+            Piece {
+                at: 0x500,
+                bytes: b"_MP_\x50\x04\x00\x00\x01\x04\x4C\x00\x00\x00\x00\x00",
+            },
+            Piece {
+                at: 0x450,
+                bytes: TABLE,
+            },
         ],
         status: 0,
         text: "mptable 1
@@ -340,10 +514,10 @@ end
         size: SMALL,
         pieces: &[
             WORD,
-            (
-                0x500,
-                b"_MP_\x50\x04\x00\x00\x01\x01\x4F\x00\x00\x00\x00\x00",
-            ),
+            Piece {
+                at: 0x500,
+                bytes: b"_MP_\x50\x04\x00\x00\x01\x01\x4F\x00\x00\x00\x00\x00",
+            },
         ],
         status: 7,
         text: "mptab: fault 1 BadRevision at 00000509\n",
@@ -353,10 +527,10 @@ end
         size: SMALL,
         pieces: &[
             WORD,
-            (
-                0x500,
-                b"_MP_\x50\x04\x00\x00\x01\x04\x4C\x00\x00\x00\x00\x00",
-            ),
+            Piece {
+                at: 0x500,
+                bytes: b"_MP_\x50\x04\x00\x00\x01\x04\x4C\x00\x00\x00\x00\x00",
+            },
         ],
         status: 7,
         text: "mptab: fault 5 BadSignature at 00000450\n",
@@ -364,42 +538,94 @@ end
     Row {
         name: "signature before length",
         size: SMALL,
-        pieces: &[WORD, POINTER, AT, (0x510, b"\x00"), (0x514, b"\x2B")],
+        pieces: &[
+            WORD,
+            POINTER,
+            AT,
+            Piece {
+                at: 0x510,
+                bytes: b"\x00",
+            },
+            Piece {
+                at: 0x514,
+                bytes: b"\x2B",
+            },
+        ],
         status: 7,
         text: "mptab: fault 5 BadSignature at 00000510\n",
     },
     Row {
         name: "length outside before revision",
         size: SMALL,
-        pieces: &[WORD, POINTER, AT, (0x514, b"\x41\x00\x01")],
+        pieces: &[
+            WORD,
+            POINTER,
+            AT,
+            Piece {
+                at: 0x514,
+                bytes: b"\x41\x00\x01",
+            },
+        ],
         status: 7,
         text: "mptab: fault 7 LengthOutside at 00000514\n",
     },
     Row {
         name: "short length before revision",
         size: SMALL,
-        pieces: &[WORD, POINTER, AT, (0x514, b"\x2B\x00\x01")],
+        pieces: &[
+            WORD,
+            POINTER,
+            AT,
+            Piece {
+                at: 0x514,
+                bytes: b"\x2B\x00\x01",
+            },
+        ],
         status: 7,
         text: "mptab: fault 6 ShortLength at 00000514\n",
     },
     Row {
         name: "revision before sum",
         size: SMALL,
-        pieces: &[WORD, POINTER, AT, (0x516, b"\x01\x00")],
+        pieces: &[
+            WORD,
+            POINTER,
+            AT,
+            Piece {
+                at: 0x516,
+                bytes: b"\x01\x00",
+            },
+        ],
         status: 7,
         text: "mptab: fault 1 BadRevision at 00000516\n",
     },
     Row {
         name: "sum before count",
         size: SMALL,
-        pieces: &[WORD, POINTER, AT, (0x532, b"\x02")],
+        pieces: &[
+            WORD,
+            POINTER,
+            AT,
+            Piece {
+                at: 0x532,
+                bytes: b"\x02",
+            },
+        ],
         status: 7,
         text: "mptab: fault 8 BadSum at 00000517\n",
     },
     Row {
         name: "sum before an unknown entry",
         size: SMALL,
-        pieces: &[WORD, POINTER, AT, (0x53C, b"\x05")],
+        pieces: &[
+            WORD,
+            POINTER,
+            AT,
+            Piece {
+                at: 0x53C,
+                bytes: b"\x05",
+            },
+        ],
         status: 7,
         text: "mptab: fault 8 BadSum at 00000517\n",
     },
@@ -410,9 +636,18 @@ end
             WORD,
             POINTER,
             AT,
-            (0x532, b"\x02"),
-            (0x53C, b"\x05"),
-            (0x517, b"\x93"),
+            Piece {
+                at: 0x532,
+                bytes: b"\x02",
+            },
+            Piece {
+                at: 0x53C,
+                bytes: b"\x05",
+            },
+            Piece {
+                at: 0x517,
+                bytes: b"\x93",
+            },
         ],
         status: 7,
         text: "mptab: fault 10 UnknownEntry at 0000053C\n",
@@ -424,9 +659,18 @@ end
             WORD,
             POINTER,
             AT,
-            (0x532, b"\x02"),
-            (0x514, b"\x3F"),
-            (0x517, b"\x99"),
+            Piece {
+                at: 0x532,
+                bytes: b"\x02",
+            },
+            Piece {
+                at: 0x514,
+                bytes: b"\x3F",
+            },
+            Piece {
+                at: 0x517,
+                bytes: b"\x99",
+            },
         ],
         status: 7,
         text: "mptab: fault 11 CutEntry at 0000053C\n",
@@ -438,9 +682,18 @@ end
             WORD,
             POINTER,
             AT,
-            (0x532, b"\x02"),
-            (0x538, b"\x01"),
-            (0x517, b"\x97"),
+            Piece {
+                at: 0x532,
+                bytes: b"\x02",
+            },
+            Piece {
+                at: 0x538,
+                bytes: b"\x01",
+            },
+            Piece {
+                at: 0x517,
+                bytes: b"\x97",
+            },
         ],
         status: 7,
         text: "mptab: fault 9 BadCount at 00000532\n",
@@ -452,10 +705,22 @@ end
             WORD,
             POINTER,
             AT,
-            (0x532, b"\x02"),
-            (0x538, b"\x02\x00\x00"),
-            (0x517, b"\x96"),
-            (0x550, b"\xC8\x02"),
+            Piece {
+                at: 0x532,
+                bytes: b"\x02",
+            },
+            Piece {
+                at: 0x538,
+                bytes: b"\x02\x00\x00",
+            },
+            Piece {
+                at: 0x517,
+                bytes: b"\x96",
+            },
+            Piece {
+                at: 0x550,
+                bytes: b"\xC8\x02",
+            },
         ],
         status: 7,
         text: "mptab: fault 9 BadCount at 00000532\n",
@@ -467,9 +732,18 @@ end
             WORD,
             POINTER,
             AT,
-            (0x538, b"\x01"),
-            (0x53C, b"\x05"),
-            (0x517, b"\x93"),
+            Piece {
+                at: 0x538,
+                bytes: b"\x01",
+            },
+            Piece {
+                at: 0x53C,
+                bytes: b"\x05",
+            },
+            Piece {
+                at: 0x517,
+                bytes: b"\x93",
+            },
         ],
         status: 7,
         text: "mptab: fault 12 ExtOutside at 00000538\n",
@@ -481,9 +755,18 @@ end
             WORD,
             POINTER,
             AT,
-            (0x514, b"\x3F"),
-            (0x538, b"\x02"),
-            (0x517, b"\x98"),
+            Piece {
+                at: 0x514,
+                bytes: b"\x3F",
+            },
+            Piece {
+                at: 0x538,
+                bytes: b"\x02",
+            },
+            Piece {
+                at: 0x517,
+                bytes: b"\x98",
+            },
         ],
         status: 7,
         text: "mptab: fault 12 ExtOutside at 00000538\n",
@@ -495,10 +778,22 @@ end
             WORD,
             POINTER,
             AT,
-            (0x538, b"\x02\x00\x00"),
-            (0x53C, b"\x05"),
-            (0x517, b"\x92"),
-            (0x550, b"\xC8\x02"),
+            Piece {
+                at: 0x538,
+                bytes: b"\x02\x00\x00",
+            },
+            Piece {
+                at: 0x53C,
+                bytes: b"\x05",
+            },
+            Piece {
+                at: 0x517,
+                bytes: b"\x92",
+            },
+            Piece {
+                at: 0x550,
+                bytes: b"\xC8\x02",
+            },
         ],
         status: 7,
         text: "mptab: fault 13 BadExtSum at 0000053A\n",
@@ -510,9 +805,18 @@ end
             WORD,
             POINTER,
             AT,
-            (0x538, b"\x02\x00\x00"),
-            (0x517, b"\x97"),
-            (0x550, b"\x7F\x02"),
+            Piece {
+                at: 0x538,
+                bytes: b"\x02\x00\x00",
+            },
+            Piece {
+                at: 0x517,
+                bytes: b"\x97",
+            },
+            Piece {
+                at: 0x550,
+                bytes: b"\x7F\x02",
+            },
         ],
         status: 7,
         text: "mptab: fault 13 BadExtSum at 0000053A\n",
@@ -524,10 +828,22 @@ end
             WORD,
             POINTER,
             AT,
-            (0x538, b"\x02\x00\x7F"),
-            (0x53C, b"\x05"),
-            (0x517, b"\x13"),
-            (0x550, b"\x7F\x02"),
+            Piece {
+                at: 0x538,
+                bytes: b"\x02\x00\x7F",
+            },
+            Piece {
+                at: 0x53C,
+                bytes: b"\x05",
+            },
+            Piece {
+                at: 0x517,
+                bytes: b"\x13",
+            },
+            Piece {
+                at: 0x550,
+                bytes: b"\x7F\x02",
+            },
         ],
         status: 7,
         text: "mptab: fault 10 UnknownEntry at 0000053C\n",
@@ -539,10 +855,22 @@ end
             WORD,
             POINTER,
             AT,
-            (0x514, b"\x3F"),
-            (0x538, b"\x02\x00\x7F"),
-            (0x517, b"\x19"),
-            (0x54F, b"\x7F\x02"),
+            Piece {
+                at: 0x514,
+                bytes: b"\x3F",
+            },
+            Piece {
+                at: 0x538,
+                bytes: b"\x02\x00\x7F",
+            },
+            Piece {
+                at: 0x517,
+                bytes: b"\x19",
+            },
+            Piece {
+                at: 0x54F,
+                bytes: b"\x7F\x02",
+            },
         ],
         status: 7,
         text: "mptab: fault 11 CutEntry at 0000053C\n",
@@ -554,9 +882,18 @@ end
             WORD,
             POINTER,
             AT,
-            (0x514, b"\x42"),
-            (0x550, b"\x05\x01"),
-            (0x517, b"\x91"),
+            Piece {
+                at: 0x514,
+                bytes: b"\x42",
+            },
+            Piece {
+                at: 0x550,
+                bytes: b"\x05\x01",
+            },
+            Piece {
+                at: 0x517,
+                bytes: b"\x91",
+            },
         ],
         status: 7,
         text: "mptab: fault 10 UnknownEntry at 00000550\n",
@@ -568,9 +905,18 @@ end
             WORD,
             POINTER,
             AT,
-            (0x538, b"\x03\x00\xB8"),
-            (0x517, b"\xDE"),
-            (0x550, b"\xC8\x01\x7F"),
+            Piece {
+                at: 0x538,
+                bytes: b"\x03\x00\xB8",
+            },
+            Piece {
+                at: 0x517,
+                bytes: b"\xDE",
+            },
+            Piece {
+                at: 0x550,
+                bytes: b"\xC8\x01\x7F",
+            },
         ],
         status: 7,
         text: "mptab: fault 15 BadExtLength at 00000551\n",
@@ -583,10 +929,10 @@ const DEFAULTS: &[Row] = &[
         size: SMALL,
         pieces: &[
             WORD,
-            (
-                0x500,
-                b"_MP_\x00\x00\x00\x00\x01\x04\xA0\x00\x00\x00\x00\x00",
-            ),
+            Piece {
+                at: 0x500,
+                bytes: b"_MP_\x00\x00\x00\x00\x01\x04\xA0\x00\x00\x00\x00\x00",
+            },
         ],
         status: 7,
         text: "mptab: fault 3 NoTable at 00000504\n",
@@ -596,10 +942,10 @@ const DEFAULTS: &[Row] = &[
         size: SMALL,
         pieces: &[
             WORD,
-            (
-                0x500,
-                b"_MP_\x00\x00\x00\x00\x01\x04\x9F\x01\x00\x00\x00\x00",
-            ),
+            Piece {
+                at: 0x500,
+                bytes: b"_MP_\x00\x00\x00\x00\x01\x04\x9F\x01\x00\x00\x00\x00",
+            },
         ],
         status: 0,
         text: "mptable 1
@@ -612,10 +958,10 @@ end
         size: SMALL,
         pieces: &[
             WORD,
-            (
-                0x500,
-                b"_MP_\x00\x00\x00\x00\x01\x04\x9E\x02\x00\x00\x00\x00",
-            ),
+            Piece {
+                at: 0x500,
+                bytes: b"_MP_\x00\x00\x00\x00\x01\x04\x9E\x02\x00\x00\x00\x00",
+            },
         ],
         status: 0,
         text: "mptable 1
@@ -628,10 +974,10 @@ end
         size: SMALL,
         pieces: &[
             WORD,
-            (
-                0x500,
-                b"_MP_\x00\x00\x00\x00\x01\x04\x9D\x03\x00\x00\x00\x00",
-            ),
+            Piece {
+                at: 0x500,
+                bytes: b"_MP_\x00\x00\x00\x00\x01\x04\x9D\x03\x00\x00\x00\x00",
+            },
         ],
         status: 0,
         text: "mptable 1
@@ -644,10 +990,10 @@ end
         size: SMALL,
         pieces: &[
             WORD,
-            (
-                0x500,
-                b"_MP_\x00\x00\x00\x00\x01\x04\x9C\x04\x00\x00\x00\x00",
-            ),
+            Piece {
+                at: 0x500,
+                bytes: b"_MP_\x00\x00\x00\x00\x01\x04\x9C\x04\x00\x00\x00\x00",
+            },
         ],
         status: 0,
         text: "mptable 1
@@ -660,10 +1006,10 @@ end
         size: SMALL,
         pieces: &[
             WORD,
-            (
-                0x500,
-                b"_MP_\x00\x00\x00\x00\x01\x04\x9B\x05\x00\x00\x00\x00",
-            ),
+            Piece {
+                at: 0x500,
+                bytes: b"_MP_\x00\x00\x00\x00\x01\x04\x9B\x05\x00\x00\x00\x00",
+            },
         ],
         status: 0,
         text: "mptable 1
@@ -676,10 +1022,10 @@ end
         size: SMALL,
         pieces: &[
             WORD,
-            (
-                0x500,
-                b"_MP_\x00\x00\x00\x00\x01\x04\x9A\x06\x00\x00\x00\x00",
-            ),
+            Piece {
+                at: 0x500,
+                bytes: b"_MP_\x00\x00\x00\x00\x01\x04\x9A\x06\x00\x00\x00\x00",
+            },
         ],
         status: 0,
         text: "mptable 1
@@ -692,10 +1038,10 @@ end
         size: SMALL,
         pieces: &[
             WORD,
-            (
-                0x500,
-                b"_MP_\x00\x00\x00\x00\x01\x04\x99\x07\x00\x00\x00\x00",
-            ),
+            Piece {
+                at: 0x500,
+                bytes: b"_MP_\x00\x00\x00\x00\x01\x04\x99\x07\x00\x00\x00\x00",
+            },
         ],
         status: 0,
         text: "mptable 1
@@ -708,10 +1054,10 @@ end
         size: SMALL,
         pieces: &[
             WORD,
-            (
-                0x500,
-                b"_MP_\x00\x00\x00\x00\x01\x04\x98\x08\x00\x00\x00\x00",
-            ),
+            Piece {
+                at: 0x500,
+                bytes: b"_MP_\x00\x00\x00\x00\x01\x04\x98\x08\x00\x00\x00\x00",
+            },
         ],
         status: 7,
         text: "mptab: fault 2 BadDefault at 0000050B\n",
@@ -721,10 +1067,10 @@ end
         size: SMALL,
         pieces: &[
             WORD,
-            (
-                0x500,
-                b"_MP_\x00\x00\x00\x00\x01\x04\x20\x80\x00\x00\x00\x00",
-            ),
+            Piece {
+                at: 0x500,
+                bytes: b"_MP_\x00\x00\x00\x00\x01\x04\x20\x80\x00\x00\x00\x00",
+            },
         ],
         status: 7,
         text: "mptab: fault 2 BadDefault at 0000050B\n",
@@ -734,10 +1080,10 @@ end
         size: SMALL,
         pieces: &[
             WORD,
-            (
-                0x500,
-                b"_MP_\x00\x00\x00\x00\x01\x04\xA1\xFF\x00\x00\x00\x00",
-            ),
+            Piece {
+                at: 0x500,
+                bytes: b"_MP_\x00\x00\x00\x00\x01\x04\xA1\xFF\x00\x00\x00\x00",
+            },
         ],
         status: 7,
         text: "mptab: fault 2 BadDefault at 0000050B\n",
@@ -746,18 +1092,21 @@ end
 
 #[test]
 fn each_reason(rt: HostRuntime) -> Result<(), Fail> {
-    assert_eq!(rt; first_wrong(rt.alloc(), REASONS)?, None);
+    let wrong = first_wrong(rt.alloc(), REASONS)?;
+    same(&rt, "the first wrong row", wrong, None);
     Ok(())
 }
 
 #[test]
 fn the_first_of_two_faults(rt: HostRuntime) -> Result<(), Fail> {
-    assert_eq!(rt; first_wrong(rt.alloc(), PAIRS)?, None);
+    let wrong = first_wrong(rt.alloc(), PAIRS)?;
+    same(&rt, "the first wrong row", wrong, None);
     Ok(())
 }
 
 #[test]
 fn default_numbers(rt: HostRuntime) -> Result<(), Fail> {
-    assert_eq!(rt; first_wrong(rt.alloc(), DEFAULTS)?, None);
+    let wrong = first_wrong(rt.alloc(), DEFAULTS)?;
+    same(&rt, "the first wrong row", wrong, None);
     Ok(())
 }

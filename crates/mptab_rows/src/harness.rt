@@ -3,6 +3,8 @@
 use mpt_base::{MemShelf, MemSink};
 use mptab_calls::run_still;
 use std::alloc::Global;
+use std::fmt::Debug;
+use std::process::Abort;
 use std::test::Fail;
 
 /// The name under which an image lies on the shelf.
@@ -12,22 +14,28 @@ pub(crate) const NAME: &str = "board.img";
 pub(crate) const ROOM: usize = 65536;
 
 /// Bytes and their place in an image. What passes the image's end is left out.
-pub(crate) type Piece = (usize, &'static [u8]);
+pub(crate) struct Piece {
+    pub(crate) at: usize,
+    pub(crate) bytes: &'static [u8],
+}
 
 /// The pointer of the board with one processor, at F0000h.
-pub(crate) const POINTER: Piece = (
-    0xF0000,
-    b"_MP_\x10\x00\x0F\x00\x01\x04\x81\x00\x00\x00\x00\x00",
-);
+pub(crate) const POINTER: Piece = Piece {
+    at: 0xF0000,
+    bytes: b"_MP_\x10\x00\x0F\x00\x01\x04\x81\x00\x00\x00\x00\x00",
+};
 
 /// The word that names 500h as the start of the EBDA.
-pub(crate) const WORD: Piece = (0x40E, b"\x50\x00");
+pub(crate) const WORD: Piece = Piece {
+    at: 0x40E,
+    bytes: b"\x50\x00",
+};
 
 /// The pointer of the same board at 500h, to a table at 510h.
-pub(crate) const SMALL_POINTER: Piece = (
-    0x500,
-    b"_MP_\x10\x05\x00\x00\x01\x04\x8B\x00\x00\x00\x00\x00",
-);
+pub(crate) const SMALL_POINTER: Piece = Piece {
+    at: 0x500,
+    bytes: b"_MP_\x10\x05\x00\x00\x01\x04\x8B\x00\x00\x00\x00\x00",
+};
 
 /// The table of the board with one processor: 64 bytes, whose sum is 0.
 pub(crate) const TABLE: &[u8] = b"PCMP\x40\x00\x04\x99MPTAB   BOARD       \
@@ -59,11 +67,16 @@ impl Answer {
     }
 }
 
+/// Asserts that two values are the same, at one place for every row.
+pub(crate) fn same<T: PartialEq + Debug + Drop>(rt: &impl Abort, name: &str, got: T, want: T) {
+    assert_eq!(rt; got, want, "{name}");
+}
+
 /// The image of these pieces.
 pub(crate) fn image_with(alloc: Global, size: usize, pieces: &[Piece]) -> Result<Vec<u8>, Fail> {
     let mut image = vec![in alloc; 0; size]?;
-    for (at, bytes) in pieces {
-        put(&mut image, *at, bytes);
+    for piece in pieces {
+        put(&mut image, piece.at, piece.bytes);
     }
     Ok(image)
 }

@@ -1,20 +1,23 @@
 //! Sizes that cut the words of the search, its areas, the pointer, the header, the base and the extended
 //! part.
 
-use crate::harness::{Piece, Row, SMALL_POINTER as POINTER, TABLE, WORD, first_wrong};
+use crate::harness::{Piece, Row, SMALL_POINTER as POINTER, TABLE, WORD, first_wrong, same};
 use std::test::Fail;
 
 /// The table, directly after the pointer.
-const AT: Piece = (0x510, TABLE);
+const AT: Piece = Piece {
+    at: 0x510,
+    bytes: TABLE,
+};
 
 const SIZES: &[Row] = &[
     Row {
         name: "the EBDA word is whole: it lies in the pointer itself",
         size: 1040,
-        pieces: &[(
-            0x400,
-            b"_MP_\x00\x00\x00\x00\x01\x04\x5B\x05\x00\x00\x40\x00",
-        )],
+        pieces: &[Piece {
+            at: 0x400,
+            bytes: b"_MP_\x00\x00\x00\x00\x01\x04\x5B\x05\x00\x00\x40\x00",
+        }],
         status: 0,
         text: "mptable 1
 pointer at 00000400 table 00000000 revision 04 features 0500004000
@@ -24,10 +27,10 @@ end
     Row {
         name: "the EBDA word is cut, and counts as 0",
         size: 1039,
-        pieces: &[(
-            0x400,
-            b"_MP_\x00\x00\x00\x00\x01\x04\x5B\x05\x00\x00\x40\x00",
-        )],
+        pieces: &[Piece {
+            at: 0x400,
+            bytes: b"_MP_\x00\x00\x00\x00\x01\x04\x5B\x05\x00\x00\x40\x00",
+        }],
         status: 6,
         text: "mptab: no floating pointer\n",
     },
@@ -35,11 +38,14 @@ end
         name: "the base word is whole: 2 KiB",
         size: 1045,
         pieces: &[
-            (
-                0x400,
-                b"_MP_\x00\x00\x00\x00\x01\x04\x9B\x05\x00\x00\x00\x00",
-            ),
-            (0x413, b"\x02\x00"),
+            Piece {
+                at: 0x400,
+                bytes: b"_MP_\x00\x00\x00\x00\x01\x04\x9B\x05\x00\x00\x00\x00",
+            },
+            Piece {
+                at: 0x413,
+                bytes: b"\x02\x00",
+            },
         ],
         status: 0,
         text: "mptable 1
@@ -51,11 +57,14 @@ end
         name: "the base word is cut, and counts as 0",
         size: 1044,
         pieces: &[
-            (
-                0x400,
-                b"_MP_\x00\x00\x00\x00\x01\x04\x9B\x05\x00\x00\x00\x00",
-            ),
-            (0x413, b"\x02\x00"),
+            Piece {
+                at: 0x400,
+                bytes: b"_MP_\x00\x00\x00\x00\x01\x04\x9B\x05\x00\x00\x00\x00",
+            },
+            Piece {
+                at: 0x413,
+                bytes: b"\x02\x00",
+            },
         ],
         status: 6,
         text: "mptab: no floating pointer\n",
@@ -65,11 +74,14 @@ end
         size: 0x900,
         pieces: &[
             WORD,
-            (
-                0x420,
-                b"_MP_\x00\x00\x00\x00\x01\x04\x9B\x05\x00\x00\x00\x00",
-            ),
-            (0x413, b"\x02\x00"),
+            Piece {
+                at: 0x420,
+                bytes: b"_MP_\x00\x00\x00\x00\x01\x04\x9B\x05\x00\x00\x00\x00",
+            },
+            Piece {
+                at: 0x413,
+                bytes: b"\x02\x00",
+            },
         ],
         status: 6,
         text: "mptab: no floating pointer\n",
@@ -78,8 +90,14 @@ end
         name: "1 KiB: the first kilobyte",
         size: 1045,
         pieces: &[
-            (0x0, b"_MP_\x00\x00\x00\x00\x01\x04\x9B\x05\x00\x00\x00\x00"),
-            (0x413, b"\x01\x00"),
+            Piece {
+                at: 0x0,
+                bytes: b"_MP_\x00\x00\x00\x00\x01\x04\x9B\x05\x00\x00\x00\x00",
+            },
+            Piece {
+                at: 0x413,
+                bytes: b"\x01\x00",
+            },
         ],
         status: 0,
         text: "mptable 1
@@ -92,10 +110,10 @@ end
         size: 0x910,
         pieces: &[
             WORD,
-            (
-                0x8F0,
-                b"_MP_\x00\x00\x00\x00\x01\x04\x9B\x05\x00\x00\x00\x00",
-            ),
+            Piece {
+                at: 0x8F0,
+                bytes: b"_MP_\x00\x00\x00\x00\x01\x04\x9B\x05\x00\x00\x00\x00",
+            },
         ],
         status: 0,
         text: "mptable 1
@@ -108,10 +126,10 @@ end
         size: 0x910,
         pieces: &[
             WORD,
-            (
-                0x900,
-                b"_MP_\x00\x00\x00\x00\x01\x04\x9B\x05\x00\x00\x00\x00",
-            ),
+            Piece {
+                at: 0x900,
+                bytes: b"_MP_\x00\x00\x00\x00\x01\x04\x9B\x05\x00\x00\x00\x00",
+            },
         ],
         status: 6,
         text: "mptab: no floating pointer\n",
@@ -121,10 +139,10 @@ end
         size: 0x910,
         pieces: &[
             WORD,
-            (
-                0x4F0,
-                b"_MP_\x00\x00\x00\x00\x01\x04\x9B\x05\x00\x00\x00\x00",
-            ),
+            Piece {
+                at: 0x4F0,
+                bytes: b"_MP_\x00\x00\x00\x00\x01\x04\x9B\x05\x00\x00\x00\x00",
+            },
         ],
         status: 6,
         text: "mptab: no floating pointer\n",
@@ -134,10 +152,10 @@ end
         size: 0x910,
         pieces: &[
             WORD,
-            (
-                0x508,
-                b"_MP_\x00\x00\x00\x00\x01\x04\x9B\x05\x00\x00\x00\x00",
-            ),
+            Piece {
+                at: 0x508,
+                bytes: b"_MP_\x00\x00\x00\x00\x01\x04\x9B\x05\x00\x00\x00\x00",
+            },
         ],
         status: 6,
         text: "mptab: no floating pointer\n",
@@ -147,14 +165,14 @@ end
         size: 0x910,
         pieces: &[
             WORD,
-            (
-                0x510,
-                b"_MP_\x00\x00\x00\x00\x01\x04\x9B\x05\x00\x00\x00\x00",
-            ),
-            (
-                0x520,
-                b"_MP_\x00\x00\x00\x00\x01\x04\x9A\x06\x00\x00\x00\x00",
-            ),
+            Piece {
+                at: 0x510,
+                bytes: b"_MP_\x00\x00\x00\x00\x01\x04\x9B\x05\x00\x00\x00\x00",
+            },
+            Piece {
+                at: 0x520,
+                bytes: b"_MP_\x00\x00\x00\x00\x01\x04\x9A\x06\x00\x00\x00\x00",
+            },
         ],
         status: 0,
         text: "mptable 1
@@ -165,10 +183,10 @@ end
     Row {
         name: "the last area from its first place",
         size: 0xF0010,
-        pieces: &[(
-            0xF0000,
-            b"_MP_\x00\x00\x00\x00\x01\x04\x9B\x05\x00\x00\x00\x00",
-        )],
+        pieces: &[Piece {
+            at: 0xF0000,
+            bytes: b"_MP_\x00\x00\x00\x00\x01\x04\x9B\x05\x00\x00\x00\x00",
+        }],
         status: 0,
         text: "mptable 1
 pointer at 000F0000 table 00000000 revision 04 features 0500000000
@@ -178,20 +196,20 @@ end
     Row {
         name: "a place before the last area",
         size: 0x100000,
-        pieces: &[(
-            0xEFFF0,
-            b"_MP_\x00\x00\x00\x00\x01\x04\x9B\x05\x00\x00\x00\x00",
-        )],
+        pieces: &[Piece {
+            at: 0xEFFF0,
+            bytes: b"_MP_\x00\x00\x00\x00\x01\x04\x9B\x05\x00\x00\x00\x00",
+        }],
         status: 6,
         text: "mptab: no floating pointer\n",
     },
     Row {
         name: "a place behind the last area",
         size: 0x100010,
-        pieces: &[(
-            0x100000,
-            b"_MP_\x00\x00\x00\x00\x01\x04\x9B\x05\x00\x00\x00\x00",
-        )],
+        pieces: &[Piece {
+            at: 0x100000,
+            bytes: b"_MP_\x00\x00\x00\x00\x01\x04\x9B\x05\x00\x00\x00\x00",
+        }],
         status: 6,
         text: "mptab: no floating pointer\n",
     },
@@ -200,10 +218,10 @@ end
         size: 0x50F,
         pieces: &[
             WORD,
-            (
-                0x500,
-                b"_MP_\x00\x00\x00\x00\x01\x04\x9B\x05\x00\x00\x00\x00",
-            ),
+            Piece {
+                at: 0x500,
+                bytes: b"_MP_\x00\x00\x00\x00\x01\x04\x9B\x05\x00\x00\x00\x00",
+            },
         ],
         status: 6,
         text: "mptab: no floating pointer\n",
@@ -213,10 +231,10 @@ end
         size: 0x510,
         pieces: &[
             WORD,
-            (
-                0x500,
-                b"_MP_\x00\x00\x00\x00\x01\x04\x9B\x05\x00\x00\x00\x00",
-            ),
+            Piece {
+                at: 0x500,
+                bytes: b"_MP_\x00\x00\x00\x00\x01\x04\x9B\x05\x00\x00\x00\x00",
+            },
         ],
         status: 0,
         text: "mptable 1
@@ -229,10 +247,10 @@ end
         size: 0x510,
         pieces: &[
             WORD,
-            (
-                0x500,
-                b"\x5F\x4D\x50\x5F\x00\x00\x00\x00\x02\x04\x9A\x05\x00\x00\x00\x00",
-            ),
+            Piece {
+                at: 0x500,
+                bytes: b"\x5F\x4D\x50\x5F\x00\x00\x00\x00\x02\x04\x9A\x05\x00\x00\x00\x00",
+            },
         ],
         status: 6,
         text: "mptab: no floating pointer\n",
@@ -242,10 +260,10 @@ end
         size: 0x510,
         pieces: &[
             WORD,
-            (
-                0x500,
-                b"\x5F\x4D\x50\x20\x00\x00\x00\x00\x01\x04\xDA\x05\x00\x00\x00\x00",
-            ),
+            Piece {
+                at: 0x500,
+                bytes: b"\x5F\x4D\x50\x20\x00\x00\x00\x00\x01\x04\xDA\x05\x00\x00\x00\x00",
+            },
         ],
         status: 6,
         text: "mptab: no floating pointer\n",
@@ -297,9 +315,18 @@ end
             WORD,
             POINTER,
             AT,
-            (0x538, b"\x02\x00\x36"),
-            (0x517, b"\x61"),
-            (0x550, b"\xC8\x02"),
+            Piece {
+                at: 0x538,
+                bytes: b"\x02\x00\x36",
+            },
+            Piece {
+                at: 0x517,
+                bytes: b"\x61",
+            },
+            Piece {
+                at: 0x550,
+                bytes: b"\xC8\x02",
+            },
         ],
         status: 7,
         text: "mptab: fault 12 ExtOutside at 00000538\n",
@@ -311,9 +338,18 @@ end
             WORD,
             POINTER,
             AT,
-            (0x538, b"\x02\x00\x36"),
-            (0x517, b"\x61"),
-            (0x550, b"\xC8\x02"),
+            Piece {
+                at: 0x538,
+                bytes: b"\x02\x00\x36",
+            },
+            Piece {
+                at: 0x517,
+                bytes: b"\x61",
+            },
+            Piece {
+                at: 0x550,
+                bytes: b"\xC8\x02",
+            },
         ],
         status: 7,
         text: "mptab: fault 12 ExtOutside at 00000538\n",
@@ -325,9 +361,18 @@ end
             WORD,
             POINTER,
             AT,
-            (0x538, b"\x02\x00\x36"),
-            (0x517, b"\x61"),
-            (0x550, b"\xC8\x02"),
+            Piece {
+                at: 0x538,
+                bytes: b"\x02\x00\x36",
+            },
+            Piece {
+                at: 0x517,
+                bytes: b"\x61",
+            },
+            Piece {
+                at: 0x550,
+                bytes: b"\xC8\x02",
+            },
         ],
         status: 0,
         text: "mptable 1
@@ -342,11 +387,14 @@ end
         name: "a table above 1 MiB",
         size: 0x100040,
         pieces: &[
-            (
-                0xF0000,
-                b"_MP_\x00\x00\x10\x00\x01\x04\x90\x00\x00\x00\x00\x00",
-            ),
-            (0x100000, TABLE),
+            Piece {
+                at: 0xF0000,
+                bytes: b"_MP_\x00\x00\x10\x00\x01\x04\x90\x00\x00\x00\x00\x00",
+            },
+            Piece {
+                at: 0x100000,
+                bytes: TABLE,
+            },
         ],
         status: 0,
         text: "mptable 1
@@ -360,6 +408,7 @@ end
 
 #[test]
 fn sizes_that_cut(rt: HostRuntime) -> Result<(), Fail> {
-    assert_eq!(rt; first_wrong(rt.alloc(), SIZES)?, None);
+    let wrong = first_wrong(rt.alloc(), SIZES)?;
+    same(&rt, "the first wrong row", wrong, None);
     Ok(())
 }

@@ -1,13 +1,16 @@
 //! Whole images and their answers: the worked rows of the format, and hostile images.
 
-use crate::harness::{POINTER, Piece, Row, TABLE, first_wrong};
+use crate::harness::{POINTER, Piece, Row, TABLE, first_wrong, same};
 use std::test::Fail;
 
 /// The length of most images.
 const MIB: usize = 0x100000;
 
 /// The table, directly after the pointer.
-const AT: Piece = (0xF0010, TABLE);
+const AT: Piece = Piece {
+    at: 0xF0010,
+    bytes: TABLE,
+};
 
 const WORKED: &[Row] = &[
     Row {
@@ -26,12 +29,18 @@ end
         name: "the same board in an image of 1,360 bytes, named by the EBDA word",
         size: 1360,
         pieces: &[
-            (0x40E, b"\x50\x00"),
-            (
-                0x500,
-                b"_MP_\x10\x05\x00\x00\x01\x04\x8B\x00\x00\x00\x00\x00",
-            ),
-            (0x510, TABLE),
+            Piece {
+                at: 0x40E,
+                bytes: b"\x50\x00",
+            },
+            Piece {
+                at: 0x500,
+                bytes: b"_MP_\x10\x05\x00\x00\x01\x04\x8B\x00\x00\x00\x00\x00",
+            },
+            Piece {
+                at: 0x510,
+                bytes: TABLE,
+            },
         ],
         status: 0,
         text: "mptable 1
@@ -54,11 +63,14 @@ end
         pieces: &[
             POINTER,
             AT,
-            (0x40E, b"\xC0\x9F"),
-            (
-                0x9FC00,
-                b"_MP_\x00\x00\x00\x00\x01\x04\x9B\x05\x00\x00\x00\x00",
-            ),
+            Piece {
+                at: 0x40E,
+                bytes: b"\xC0\x9F",
+            },
+            Piece {
+                at: 0x9FC00,
+                bytes: b"_MP_\x00\x00\x00\x00\x01\x04\x9B\x05\x00\x00\x00\x00",
+            },
         ],
         status: 0,
         text: "mptable 1
@@ -70,15 +82,18 @@ end
         name: "a pointer whose sum is wrong is passed over",
         size: MIB,
         pieces: &[
-            (
-                0xF0000,
-                b"_MP_\x10\x00\x0F\x00\x01\x04\x80\x00\x00\x00\x00\x00",
-            ),
-            (
-                0xF0100,
-                b"_MP_\x00\x02\x0F\x00\x01\x04\x8F\x00\x00\x00\x00\x00",
-            ),
-            (0xF0200, TABLE),
+            Piece {
+                at: 0xF0000,
+                bytes: b"_MP_\x10\x00\x0F\x00\x01\x04\x80\x00\x00\x00\x00\x00",
+            },
+            Piece {
+                at: 0xF0100,
+                bytes: b"_MP_\x00\x02\x0F\x00\x01\x04\x8F\x00\x00\x00\x00\x00",
+            },
+            Piece {
+                at: 0xF0200,
+                bytes: TABLE,
+            },
         ],
         status: 0,
         text: "mptable 1
@@ -91,55 +106,102 @@ end
     Row {
         name: "default configuration 8",
         size: MIB,
-        pieces: &[(
-            0xF0000,
-            b"_MP_\x00\x00\x00\x00\x01\x04\x98\x08\x00\x00\x00\x00",
-        )],
+        pieces: &[Piece {
+            at: 0xF0000,
+            bytes: b"_MP_\x00\x00\x00\x00\x01\x04\x98\x08\x00\x00\x00\x00",
+        }],
         status: 7,
         text: "mptab: fault 2 BadDefault at 000F000B\n",
     },
     Row {
         name: "no default configuration and no address",
         size: MIB,
-        pieces: &[(
-            0xF0000,
-            b"_MP_\x00\x00\x00\x00\x01\x04\xA0\x00\x00\x00\x00\x00",
-        )],
+        pieces: &[Piece {
+            at: 0xF0000,
+            bytes: b"_MP_\x00\x00\x00\x00\x01\x04\xA0\x00\x00\x00\x00\x00",
+        }],
         status: 7,
         text: "mptab: fault 3 NoTable at 000F0004\n",
     },
     Row {
         name: "base length 43: the sum is not looked at",
         size: MIB,
-        pieces: &[POINTER, AT, (0xF0014, b"\x2B\x00")],
+        pieces: &[
+            POINTER,
+            AT,
+            Piece {
+                at: 0xF0014,
+                bytes: b"\x2B\x00",
+            },
+        ],
         status: 7,
         text: "mptab: fault 6 ShortLength at 000F0014\n",
     },
     Row {
         name: "base length 63 cuts the processor",
         size: MIB,
-        pieces: &[POINTER, AT, (0xF0014, b"\x3F\x00"), (0xF0017, b"\x9A")],
+        pieces: &[
+            POINTER,
+            AT,
+            Piece {
+                at: 0xF0014,
+                bytes: b"\x3F\x00",
+            },
+            Piece {
+                at: 0xF0017,
+                bytes: b"\x9A",
+            },
+        ],
         status: 7,
         text: "mptab: fault 11 CutEntry at 000F003C\n",
     },
     Row {
         name: "count 2",
         size: MIB,
-        pieces: &[POINTER, AT, (0xF0032, b"\x02"), (0xF0017, b"\x98")],
+        pieces: &[
+            POINTER,
+            AT,
+            Piece {
+                at: 0xF0032,
+                bytes: b"\x02",
+            },
+            Piece {
+                at: 0xF0017,
+                bytes: b"\x98",
+            },
+        ],
         status: 7,
         text: "mptab: fault 9 BadCount at 000F0032\n",
     },
     Row {
         name: "the checksum alone is wrong",
         size: MIB,
-        pieces: &[POINTER, AT, (0xF0017, b"\x9A")],
+        pieces: &[
+            POINTER,
+            AT,
+            Piece {
+                at: 0xF0017,
+                bytes: b"\x9A",
+            },
+        ],
         status: 7,
         text: "mptab: fault 8 BadSum at 000F0017\n",
     },
     Row {
         name: "entry type 5",
         size: MIB,
-        pieces: &[POINTER, AT, (0xF003C, b"\x05"), (0xF0017, b"\x94")],
+        pieces: &[
+            POINTER,
+            AT,
+            Piece {
+                at: 0xF003C,
+                bytes: b"\x05",
+            },
+            Piece {
+                at: 0xF0017,
+                bytes: b"\x94",
+            },
+        ],
         status: 7,
         text: "mptab: fault 10 UnknownEntry at 000F003C\n",
     },
@@ -149,9 +211,18 @@ end
         pieces: &[
             POINTER,
             AT,
-            (0xF0038, b"\x02\x00\x7F"),
-            (0xF0017, b"\x18"),
-            (0xF0050, b"\x7F\x02"),
+            Piece {
+                at: 0xF0038,
+                bytes: b"\x02\x00\x7F",
+            },
+            Piece {
+                at: 0xF0017,
+                bytes: b"\x18",
+            },
+            Piece {
+                at: 0xF0050,
+                bytes: b"\x7F\x02",
+            },
         ],
         status: 7,
         text: "mptab: fault 14 BadExtType at 000F0050\n",
@@ -162,9 +233,18 @@ end
         pieces: &[
             POINTER,
             AT,
-            (0xF0038, b"\x02\x00\x36"),
-            (0xF0017, b"\x61"),
-            (0xF0050, b"\xC8\x02"),
+            Piece {
+                at: 0xF0038,
+                bytes: b"\x02\x00\x36",
+            },
+            Piece {
+                at: 0xF0017,
+                bytes: b"\x61",
+            },
+            Piece {
+                at: 0xF0050,
+                bytes: b"\xC8\x02",
+            },
         ],
         status: 0,
         text: "mptable 1
@@ -181,9 +261,18 @@ end
         pieces: &[
             POINTER,
             AT,
-            (0xF0038, b"\x01\x00\x38"),
-            (0xF0017, b"\x60"),
-            (0xF0050, b"\xC8"),
+            Piece {
+                at: 0xF0038,
+                bytes: b"\x01\x00\x38",
+            },
+            Piece {
+                at: 0xF0017,
+                bytes: b"\x60",
+            },
+            Piece {
+                at: 0xF0050,
+                bytes: b"\xC8",
+            },
         ],
         status: 7,
         text: "mptab: fault 16 CutExtEntry at 000F0050\n",
@@ -191,14 +280,32 @@ end
     Row {
         name: "base length 43 stands before the revision 2",
         size: MIB,
-        pieces: &[POINTER, AT, (0xF0014, b"\x2B\x00"), (0xF0016, b"\x02")],
+        pieces: &[
+            POINTER,
+            AT,
+            Piece {
+                at: 0xF0014,
+                bytes: b"\x2B\x00",
+            },
+            Piece {
+                at: 0xF0016,
+                bytes: b"\x02",
+            },
+        ],
         status: 7,
         text: "mptab: fault 6 ShortLength at 000F0014\n",
     },
     Row {
         name: "revision 2 stands before the checksum 00h",
         size: MIB,
-        pieces: &[POINTER, AT, (0xF0016, b"\x02\x00")],
+        pieces: &[
+            POINTER,
+            AT,
+            Piece {
+                at: 0xF0016,
+                bytes: b"\x02\x00",
+            },
+        ],
         status: 7,
         text: "mptab: fault 1 BadRevision at 000F0016\n",
     },
@@ -227,10 +334,10 @@ const HOSTILE: &[Row] = &[
     Row {
         name: "a pointer at the last place",
         size: MIB,
-        pieces: &[(
-            0xFFFF0,
-            b"_MP_\x00\x00\x00\x00\x01\x04\x9B\x05\x00\x00\x00\x00",
-        )],
+        pieces: &[Piece {
+            at: 0xFFFF0,
+            bytes: b"_MP_\x00\x00\x00\x00\x01\x04\x9B\x05\x00\x00\x00\x00",
+        }],
         status: 0,
         text: "mptable 1
 pointer at 000FFFF0 table 00000000 revision 04 features 0500000000
@@ -240,10 +347,10 @@ end
     Row {
         name: "the image cuts a pointer at the last place",
         size: 0xFFFF8,
-        pieces: &[(
-            0xFFFF0,
-            b"_MP_\x00\x00\x00\x00\x01\x04\x9B\x05\x00\x00\x00\x00",
-        )],
+        pieces: &[Piece {
+            at: 0xFFFF0,
+            bytes: b"_MP_\x00\x00\x00\x00\x01\x04\x9B\x05\x00\x00\x00\x00",
+        }],
         status: 6,
         text: "mptab: no floating pointer\n",
     },
@@ -251,11 +358,14 @@ end
         name: "the greatest EBDA word: its area is cut at the image",
         size: MIB,
         pieces: &[
-            (
-                0xFFFF0,
-                b"_MP_\x00\x00\x00\x00\x01\x04\x9B\x05\x00\x00\x00\x00",
-            ),
-            (0x40E, b"\xFF\xFF"),
+            Piece {
+                at: 0xFFFF0,
+                bytes: b"_MP_\x00\x00\x00\x00\x01\x04\x9B\x05\x00\x00\x00\x00",
+            },
+            Piece {
+                at: 0x40E,
+                bytes: b"\xFF\xFF",
+            },
         ],
         status: 0,
         text: "mptable 1
@@ -267,11 +377,14 @@ end
         name: "the last place below 640 KiB",
         size: MIB,
         pieces: &[
-            (
-                0x9FFF0,
-                b"_MP_\x00\x00\x00\x00\x01\x04\x9B\x05\x00\x00\x00\x00",
-            ),
-            (0x413, b"\x80\x02"),
+            Piece {
+                at: 0x9FFF0,
+                bytes: b"_MP_\x00\x00\x00\x00\x01\x04\x9B\x05\x00\x00\x00\x00",
+            },
+            Piece {
+                at: 0x413,
+                bytes: b"\x80\x02",
+            },
         ],
         status: 0,
         text: "mptable 1
@@ -283,11 +396,14 @@ end
         name: "641 KiB: the kilobyte above",
         size: MIB,
         pieces: &[
-            (
-                0x9FFF0,
-                b"_MP_\x00\x00\x00\x00\x01\x04\x9B\x05\x00\x00\x00\x00",
-            ),
-            (0x413, b"\x81\x02"),
+            Piece {
+                at: 0x9FFF0,
+                bytes: b"_MP_\x00\x00\x00\x00\x01\x04\x9B\x05\x00\x00\x00\x00",
+            },
+            Piece {
+                at: 0x413,
+                bytes: b"\x81\x02",
+            },
         ],
         status: 6,
         text: "mptab: no floating pointer\n",
@@ -295,31 +411,56 @@ end
     Row {
         name: "the greatest address",
         size: MIB,
-        pieces: &[(
-            0xF0000,
-            b"_MP_\xFF\xFF\xFF\xFF\x01\x04\xA4\x00\x00\x00\x00\x00",
-        )],
+        pieces: &[Piece {
+            at: 0xF0000,
+            bytes: b"_MP_\xFF\xFF\xFF\xFF\x01\x04\xA4\x00\x00\x00\x00\x00",
+        }],
         status: 7,
         text: "mptab: fault 4 TableOutside at 000F0004\n",
     },
     Row {
         name: "base length FFFFh",
         size: MIB,
-        pieces: &[POINTER, AT, (0xF0014, b"\xFF\xFF")],
+        pieces: &[
+            POINTER,
+            AT,
+            Piece {
+                at: 0xF0014,
+                bytes: b"\xFF\xFF",
+            },
+        ],
         status: 7,
         text: "mptab: fault 7 LengthOutside at 000F0014\n",
     },
     Row {
         name: "extended length FFFFh",
         size: MIB,
-        pieces: &[POINTER, AT, (0xF0038, b"\xFF\xFF"), (0xF0017, b"\x9B")],
+        pieces: &[
+            POINTER,
+            AT,
+            Piece {
+                at: 0xF0038,
+                bytes: b"\xFF\xFF",
+            },
+            Piece {
+                at: 0xF0017,
+                bytes: b"\x9B",
+            },
+        ],
         status: 7,
         text: "mptab: fault 12 ExtOutside at 000F0038\n",
     },
     Row {
         name: "a zero signature",
         size: MIB,
-        pieces: &[POINTER, AT, (0xF0010, b"\x00\x00\x00\x00")],
+        pieces: &[
+            POINTER,
+            AT,
+            Piece {
+                at: 0xF0010,
+                bytes: b"\x00\x00\x00\x00",
+            },
+        ],
         status: 7,
         text: "mptab: fault 5 BadSignature at 000F0010\n",
     },
@@ -327,12 +468,14 @@ end
 
 #[test]
 fn worked_rows(rt: HostRuntime) -> Result<(), Fail> {
-    assert_eq!(rt; first_wrong(rt.alloc(), WORKED)?, None);
+    let wrong = first_wrong(rt.alloc(), WORKED)?;
+    same(&rt, "the first wrong row", wrong, None);
     Ok(())
 }
 
 #[test]
 fn hostile_images(rt: HostRuntime) -> Result<(), Fail> {
-    assert_eq!(rt; first_wrong(rt.alloc(), HOSTILE)?, None);
+    let wrong = first_wrong(rt.alloc(), HOSTILE)?;
+    same(&rt, "the first wrong row", wrong, None);
     Ok(())
 }
