@@ -1,7 +1,7 @@
 //! The commands over a usual board: its image built from its listing, its routes, its findings, its
 //! canonical form.
 
-use crate::harness::{Answer, POINTER, Piece, TABLE, image_with, put, same, words_of};
+use crate::harness::{Answer, POINTER, Piece, image_with, put, same, words_of};
 use crate::usual::{END, LOCAL_INTERRUPTS, ROUTES, TO_INTERRUPTS};
 use mpt_base::{MemShelf, MemSink};
 use mptab_calls::run_still;
@@ -158,10 +158,7 @@ fn routes_at_a_taken_pin(rt: HostRuntime) -> Result<(), Fail> {
 }
 
 /// The pointer of default configuration 2 at F0000h.
-const DEFAULT_2: Piece = Piece {
-    at: 0xF0000,
-    bytes: b"_MP_\x00\x00\x00\x00\x01\x04\x9E\x02\x00\x00\x00\x00",
-};
+const DEFAULT_2: Piece = Piece::Bytes(0xF0000, 16, 0x5F4D505F_00000000_01049E02_00000000);
 
 /// The first two lines of its routes by the ELCR: IRQ 1 of its EISA bus is level and low where bit 1 is set.
 const BY_ELCR: &[(&str, &str)] = &[
@@ -248,13 +245,7 @@ fn audited(alloc: Global, pieces: &[Piece]) -> Result<Answer, Fail> {
 }
 
 /// The board with one processor.
-const BOARD: &[Piece] = &[
-    POINTER,
-    Piece {
-        at: 0xF0010,
-        bytes: TABLE,
-    },
-];
+const BOARD: &[Piece] = &[POINTER, Piece::Table(0xF0010)];
 
 #[test]
 fn findings(rt: HostRuntime) -> Result<(), Fail> {
@@ -300,14 +291,8 @@ fn built_with_moved_pointer(alloc: Global) -> Result<Answer, Fail> {
 
 /// A board whose table is at 100000h.
 const HIGH: &[Piece] = &[
-    Piece {
-        at: 0xF0000,
-        bytes: b"_MP_\x00\x00\x10\x00\x01\x04\x90\x00\x00\x00\x00\x00",
-    },
-    Piece {
-        at: 0x100000,
-        bytes: TABLE,
-    },
+    Piece::Bytes(0xF0000, 16, 0x5F4D505F_00001000_01049000_00000000),
+    Piece::Table(0x100000),
 ];
 
 /// What `canon` answers to a table above 1 MiB.
@@ -374,10 +359,7 @@ fn pieces_of_an_image(rt: HostRuntime) -> Result<(), Fail> {
 }
 
 /// The word that names F000h as the segment of the EBDA.
-const EBDA_WORD: &[Piece] = &[Piece {
-    at: 0x40E,
-    bytes: b"\x00\xF0",
-}];
+const EBDA_WORD: &[Piece] = &[Piece::Bytes(0x40E, 2, 0x00F0)];
 
 /// The second put of the image fails: the first piece is there, zero but for the EBDA word.
 #[test]

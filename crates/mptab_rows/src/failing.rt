@@ -2,7 +2,7 @@
 
 use crate::board::{HEAD, board_with};
 use crate::harness::{
-    Answer, NAME, POINTER, Piece, ROOM, SMALL_POINTER, TABLE, WORD, answer_of, image_with, same,
+    Answer, NAME, POINTER, Piece, ROOM, SMALL_POINTER, WORD, answer_of, image_with, same,
     shelf_with, words_of,
 };
 use mpt_base::{MemShelf, MemSink};
@@ -82,23 +82,10 @@ const WORDS: &[Case] = &[
 ];
 
 /// The pieces of the board's image, which ends with the table.
-const SMALL_BOARD: &[Piece] = &[
-    WORD,
-    SMALL_POINTER,
-    Piece {
-        at: 0x510,
-        bytes: TABLE,
-    },
-];
+const SMALL_BOARD: &[Piece] = &[WORD, SMALL_POINTER, Piece::Table(0x510)];
 
 /// The board in an image of 1 MiB.
-const BOARD: &[Piece] = &[
-    POINTER,
-    Piece {
-        at: 0xF0010,
-        bytes: TABLE,
-    },
-];
+const BOARD: &[Piece] = &[POINTER, Piece::Table(0xF0010)];
 
 /// A shelf with the board's image, of which a call fails; 0 is none.
 fn small_board(alloc: Global, failing: u64) -> Result<MemShelf, Fail> {

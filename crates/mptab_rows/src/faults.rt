@@ -1,16 +1,13 @@
 //! The sixteen faults, one image for each and more, and which of two faults is named.
 
-use crate::harness::{Piece, Row, SMALL_POINTER as POINTER, TABLE, WORD, first_wrong, same};
+use crate::harness::{Piece, Row, SMALL_POINTER as POINTER, WORD, first_wrong, same};
 use std::test::Fail;
 
 /// The length of most images: the table ends there.
 const SMALL: usize = 0x550;
 
 /// The table, directly after the pointer.
-const AT: Piece = Piece {
-    at: 0x510,
-    bytes: TABLE,
-};
+const AT: Piece = Piece::Table(0x510);
 
 const REASONS: &[Row] = &[
     Row {
@@ -18,10 +15,7 @@ const REASONS: &[Row] = &[
         size: SMALL,
         pieces: &[
             WORD,
-            Piece {
-                at: 0x500,
-                bytes: b"_MP_\x10\x05\x00\x00\x01\x01\x8E\x00\x00\x00\x00\x00",
-            },
+            Piece::Bytes(0x500, 16, 0x5F4D505F_10050000_01018E00_00000000),
             AT,
         ],
         status: 7,
@@ -30,15 +24,7 @@ const REASONS: &[Row] = &[
     Row {
         name: "the table's revision is 1",
         size: SMALL,
-        pieces: &[
-            WORD,
-            POINTER,
-            AT,
-            Piece {
-                at: 0x516,
-                bytes: b"\x01",
-            },
-        ],
+        pieces: &[WORD, POINTER, AT, Piece::Bytes(0x516, 1, 0x01)],
         status: 7,
         text: "mptab: fault 1 BadRevision at 00000516\n",
     },
@@ -47,10 +33,7 @@ const REASONS: &[Row] = &[
         size: SMALL,
         pieces: &[
             WORD,
-            Piece {
-                at: 0x500,
-                bytes: b"_MP_\x10\x05\x00\x00\x01\x04\x83\x08\x00\x00\x00\x00",
-            },
+            Piece::Bytes(0x500, 16, 0x5F4D505F_10050000_01048308_00000000),
             AT,
         ],
         status: 7,
@@ -61,10 +44,7 @@ const REASONS: &[Row] = &[
         size: SMALL,
         pieces: &[
             WORD,
-            Piece {
-                at: 0x500,
-                bytes: b"_MP_\x00\x00\x00\x00\x01\x04\xA0\x00\x00\x00\x00\x00",
-            },
+            Piece::Bytes(0x500, 16, 0x5F4D505F_00000000_0104A000_00000000),
             AT,
         ],
         status: 7,
@@ -75,10 +55,7 @@ const REASONS: &[Row] = &[
         size: SMALL,
         pieces: &[
             WORD,
-            Piece {
-                at: 0x500,
-                bytes: b"_MP_\x25\x05\x00\x00\x01\x04\x76\x00\x00\x00\x00\x00",
-            },
+            Piece::Bytes(0x500, 16, 0x5F4D505F_25050000_01047600_00000000),
             AT,
         ],
         status: 7,
@@ -89,10 +66,7 @@ const REASONS: &[Row] = &[
         size: SMALL,
         pieces: &[
             WORD,
-            Piece {
-                at: 0x500,
-                bytes: b"_MP_\x24\x05\x00\x00\x01\x04\x77\x00\x00\x00\x00\x00",
-            },
+            Piece::Bytes(0x500, 16, 0x5F4D505F_24050000_01047700_00000000),
             AT,
         ],
         status: 7,
@@ -101,75 +75,35 @@ const REASONS: &[Row] = &[
     Row {
         name: "the last letter of the signature is small",
         size: SMALL,
-        pieces: &[
-            WORD,
-            POINTER,
-            AT,
-            Piece {
-                at: 0x513,
-                bytes: b"\x70",
-            },
-        ],
+        pieces: &[WORD, POINTER, AT, Piece::Bytes(0x513, 1, 0x70)],
         status: 7,
         text: "mptab: fault 5 BadSignature at 00000510\n",
     },
     Row {
         name: "base length 43",
         size: SMALL,
-        pieces: &[
-            WORD,
-            POINTER,
-            AT,
-            Piece {
-                at: 0x514,
-                bytes: b"\x2B",
-            },
-        ],
+        pieces: &[WORD, POINTER, AT, Piece::Bytes(0x514, 1, 0x2B)],
         status: 7,
         text: "mptab: fault 6 ShortLength at 00000514\n",
     },
     Row {
         name: "base length 0",
         size: SMALL,
-        pieces: &[
-            WORD,
-            POINTER,
-            AT,
-            Piece {
-                at: 0x514,
-                bytes: b"\x00",
-            },
-        ],
+        pieces: &[WORD, POINTER, AT, Piece::Bytes(0x514, 1, 0x00)],
         status: 7,
         text: "mptab: fault 6 ShortLength at 00000514\n",
     },
     Row {
         name: "base length 65 passes the image",
         size: SMALL,
-        pieces: &[
-            WORD,
-            POINTER,
-            AT,
-            Piece {
-                at: 0x514,
-                bytes: b"\x41",
-            },
-        ],
+        pieces: &[WORD, POINTER, AT, Piece::Bytes(0x514, 1, 0x41)],
         status: 7,
         text: "mptab: fault 7 LengthOutside at 00000514\n",
     },
     Row {
         name: "the sum of the base is 1",
         size: SMALL,
-        pieces: &[
-            WORD,
-            POINTER,
-            AT,
-            Piece {
-                at: 0x517,
-                bytes: b"\x9A",
-            },
-        ],
+        pieces: &[WORD, POINTER, AT, Piece::Bytes(0x517, 1, 0x9A)],
         status: 7,
         text: "mptab: fault 8 BadSum at 00000517\n",
     },
@@ -180,14 +114,8 @@ const REASONS: &[Row] = &[
             WORD,
             POINTER,
             AT,
-            Piece {
-                at: 0x532,
-                bytes: b"\x00",
-            },
-            Piece {
-                at: 0x517,
-                bytes: b"\x9A",
-            },
+            Piece::Bytes(0x532, 1, 0x00),
+            Piece::Bytes(0x517, 1, 0x9A),
         ],
         status: 7,
         text: "mptab: fault 9 BadCount at 00000532\n",
@@ -199,14 +127,8 @@ const REASONS: &[Row] = &[
             WORD,
             POINTER,
             AT,
-            Piece {
-                at: 0x533,
-                bytes: b"\x01",
-            },
-            Piece {
-                at: 0x517,
-                bytes: b"\x98",
-            },
+            Piece::Bytes(0x533, 1, 0x01),
+            Piece::Bytes(0x517, 1, 0x98),
         ],
         status: 7,
         text: "mptab: fault 9 BadCount at 00000532\n",
@@ -218,14 +140,8 @@ const REASONS: &[Row] = &[
             WORD,
             POINTER,
             AT,
-            Piece {
-                at: 0x53C,
-                bytes: b"\x05",
-            },
-            Piece {
-                at: 0x517,
-                bytes: b"\x94",
-            },
+            Piece::Bytes(0x53C, 1, 0x05),
+            Piece::Bytes(0x517, 1, 0x94),
         ],
         status: 7,
         text: "mptab: fault 10 UnknownEntry at 0000053C\n",
@@ -237,14 +153,8 @@ const REASONS: &[Row] = &[
             WORD,
             POINTER,
             AT,
-            Piece {
-                at: 0x53C,
-                bytes: b"\x80",
-            },
-            Piece {
-                at: 0x517,
-                bytes: b"\x19",
-            },
+            Piece::Bytes(0x53C, 1, 0x80),
+            Piece::Bytes(0x517, 1, 0x19),
         ],
         status: 7,
         text: "mptab: fault 10 UnknownEntry at 0000053C\n",
@@ -256,14 +166,8 @@ const REASONS: &[Row] = &[
             WORD,
             POINTER,
             AT,
-            Piece {
-                at: 0x514,
-                bytes: b"\x3F",
-            },
-            Piece {
-                at: 0x517,
-                bytes: b"\x9A",
-            },
+            Piece::Bytes(0x514, 1, 0x3F),
+            Piece::Bytes(0x517, 1, 0x9A),
         ],
         status: 7,
         text: "mptab: fault 11 CutEntry at 0000053C\n",
@@ -275,14 +179,8 @@ const REASONS: &[Row] = &[
             WORD,
             POINTER,
             AT,
-            Piece {
-                at: 0x538,
-                bytes: b"\x01",
-            },
-            Piece {
-                at: 0x517,
-                bytes: b"\x98",
-            },
+            Piece::Bytes(0x538, 1, 0x01),
+            Piece::Bytes(0x517, 1, 0x98),
         ],
         status: 7,
         text: "mptab: fault 12 ExtOutside at 00000538\n",
@@ -294,18 +192,9 @@ const REASONS: &[Row] = &[
             WORD,
             POINTER,
             AT,
-            Piece {
-                at: 0x538,
-                bytes: b"\x02\x00\x00",
-            },
-            Piece {
-                at: 0x517,
-                bytes: b"\x97",
-            },
-            Piece {
-                at: 0x550,
-                bytes: b"\xC8\x02",
-            },
+            Piece::Bytes(0x538, 3, 0x020000),
+            Piece::Bytes(0x517, 1, 0x97),
+            Piece::Bytes(0x550, 2, 0xC802),
         ],
         status: 7,
         text: "mptab: fault 13 BadExtSum at 0000053A\n",
@@ -317,14 +206,8 @@ const REASONS: &[Row] = &[
             WORD,
             POINTER,
             AT,
-            Piece {
-                at: 0x53A,
-                bytes: b"\x01",
-            },
-            Piece {
-                at: 0x517,
-                bytes: b"\x98",
-            },
+            Piece::Bytes(0x53A, 1, 0x01),
+            Piece::Bytes(0x517, 1, 0x98),
         ],
         status: 7,
         text: "mptab: fault 13 BadExtSum at 0000053A\n",
@@ -336,18 +219,9 @@ const REASONS: &[Row] = &[
             WORD,
             POINTER,
             AT,
-            Piece {
-                at: 0x538,
-                bytes: b"\x02\x00\x7F",
-            },
-            Piece {
-                at: 0x517,
-                bytes: b"\x18",
-            },
-            Piece {
-                at: 0x550,
-                bytes: b"\x7F\x02",
-            },
+            Piece::Bytes(0x538, 3, 0x02007F),
+            Piece::Bytes(0x517, 1, 0x18),
+            Piece::Bytes(0x550, 2, 0x7F02),
         ],
         status: 7,
         text: "mptab: fault 14 BadExtType at 00000550\n",
@@ -359,18 +233,9 @@ const REASONS: &[Row] = &[
             WORD,
             POINTER,
             AT,
-            Piece {
-                at: 0x538,
-                bytes: b"\x02\x00\x37",
-            },
-            Piece {
-                at: 0x517,
-                bytes: b"\x60",
-            },
-            Piece {
-                at: 0x550,
-                bytes: b"\xC8\x01",
-            },
+            Piece::Bytes(0x538, 3, 0x020037),
+            Piece::Bytes(0x517, 1, 0x60),
+            Piece::Bytes(0x550, 2, 0xC801),
         ],
         status: 7,
         text: "mptab: fault 15 BadExtLength at 00000551\n",
@@ -382,18 +247,9 @@ const REASONS: &[Row] = &[
             WORD,
             POINTER,
             AT,
-            Piece {
-                at: 0x538,
-                bytes: b"\x01\x00\x38",
-            },
-            Piece {
-                at: 0x517,
-                bytes: b"\x60",
-            },
-            Piece {
-                at: 0x550,
-                bytes: b"\xC8",
-            },
+            Piece::Bytes(0x538, 3, 0x010038),
+            Piece::Bytes(0x517, 1, 0x60),
+            Piece::Bytes(0x550, 1, 0xC8),
         ],
         status: 7,
         text: "mptab: fault 16 CutExtEntry at 00000550\n",
@@ -406,10 +262,7 @@ const PAIRS: &[Row] = &[
         size: SMALL,
         pieces: &[
             WORD,
-            Piece {
-                at: 0x500,
-                bytes: b"_MP_\x10\x05\x00\x00\x01\x01\x86\x08\x00\x00\x00\x00",
-            },
+            Piece::Bytes(0x500, 16, 0x5F4D505F_10050000_01018608_00000000),
             AT,
         ],
         status: 7,
@@ -420,10 +273,7 @@ const PAIRS: &[Row] = &[
         size: SMALL,
         pieces: &[
             WORD,
-            Piece {
-                at: 0x500,
-                bytes: b"_MP_\x00\x00\x00\x00\x01\x01\xA3\x00\x00\x00\x00\x00",
-            },
+            Piece::Bytes(0x500, 16, 0x5F4D505F_00000000_0101A300_00000000),
             AT,
         ],
         status: 7,
@@ -434,10 +284,7 @@ const PAIRS: &[Row] = &[
         size: SMALL,
         pieces: &[
             WORD,
-            Piece {
-                at: 0x500,
-                bytes: b"_MP_\x25\x05\x00\x00\x01\x01\x79\x00\x00\x00\x00\x00",
-            },
+            Piece::Bytes(0x500, 16, 0x5F4D505F_25050000_01017900_00000000),
             AT,
         ],
         status: 7,
@@ -448,10 +295,7 @@ const PAIRS: &[Row] = &[
         size: SMALL,
         pieces: &[
             WORD,
-            Piece {
-                at: 0x500,
-                bytes: b"_MP_\x00\x00\x00\x00\x01\x04\x98\x08\x00\x00\x00\x00",
-            },
+            Piece::Bytes(0x500, 16, 0x5F4D505F_00000000_01049808_00000000),
             AT,
         ],
         status: 7,
@@ -462,10 +306,7 @@ const PAIRS: &[Row] = &[
         size: SMALL,
         pieces: &[
             WORD,
-            Piece {
-                at: 0x500,
-                bytes: b"_MP_\x25\x05\x00\x00\x01\x04\x6E\x08\x00\x00\x00\x00",
-            },
+            Piece::Bytes(0x500, 16, 0x5F4D505F_25050000_01046E08_00000000),
             AT,
         ],
         status: 7,
@@ -476,10 +317,7 @@ const PAIRS: &[Row] = &[
         size: SMALL,
         pieces: &[
             WORD,
-            Piece {
-                at: 0x500,
-                bytes: b"_MP_\x10\x05\x00\x00\x01\x04\x84\x07\x00\x00\x00\x00",
-            },
+            Piece::Bytes(0x500, 16, 0x5F4D505F_10050000_01048407_00000000),
         ],
         status: 0,
         text: "mptable 1
@@ -492,14 +330,8 @@ end
         size: SMALL,
         pieces: &[
             WORD,
-            Piece {
-                at: 0x500,
-                bytes: b"_MP_\x50\x04\x00\x00\x01\x04\x4C\x00\x00\x00\x00\x00",
-            },
-            Piece {
-                at: 0x450,
-                bytes: TABLE,
-            },
+            Piece::Bytes(0x500, 16, 0x5F4D505F_50040000_01044C00_00000000),
+            Piece::Table(0x450),
         ],
         status: 0,
         text: "mptable 1
@@ -514,10 +346,7 @@ end
         size: SMALL,
         pieces: &[
             WORD,
-            Piece {
-                at: 0x500,
-                bytes: b"_MP_\x50\x04\x00\x00\x01\x01\x4F\x00\x00\x00\x00\x00",
-            },
+            Piece::Bytes(0x500, 16, 0x5F4D505F_50040000_01014F00_00000000),
         ],
         status: 7,
         text: "mptab: fault 1 BadRevision at 00000509\n",
@@ -527,10 +356,7 @@ end
         size: SMALL,
         pieces: &[
             WORD,
-            Piece {
-                at: 0x500,
-                bytes: b"_MP_\x50\x04\x00\x00\x01\x04\x4C\x00\x00\x00\x00\x00",
-            },
+            Piece::Bytes(0x500, 16, 0x5F4D505F_50040000_01044C00_00000000),
         ],
         status: 7,
         text: "mptab: fault 5 BadSignature at 00000450\n",
@@ -542,14 +368,8 @@ end
             WORD,
             POINTER,
             AT,
-            Piece {
-                at: 0x510,
-                bytes: b"\x00",
-            },
-            Piece {
-                at: 0x514,
-                bytes: b"\x2B",
-            },
+            Piece::Bytes(0x510, 1, 0x00),
+            Piece::Bytes(0x514, 1, 0x2B),
         ],
         status: 7,
         text: "mptab: fault 5 BadSignature at 00000510\n",
@@ -557,75 +377,35 @@ end
     Row {
         name: "length outside before revision",
         size: SMALL,
-        pieces: &[
-            WORD,
-            POINTER,
-            AT,
-            Piece {
-                at: 0x514,
-                bytes: b"\x41\x00\x01",
-            },
-        ],
+        pieces: &[WORD, POINTER, AT, Piece::Bytes(0x514, 3, 0x410001)],
         status: 7,
         text: "mptab: fault 7 LengthOutside at 00000514\n",
     },
     Row {
         name: "short length before revision",
         size: SMALL,
-        pieces: &[
-            WORD,
-            POINTER,
-            AT,
-            Piece {
-                at: 0x514,
-                bytes: b"\x2B\x00\x01",
-            },
-        ],
+        pieces: &[WORD, POINTER, AT, Piece::Bytes(0x514, 3, 0x2B0001)],
         status: 7,
         text: "mptab: fault 6 ShortLength at 00000514\n",
     },
     Row {
         name: "revision before sum",
         size: SMALL,
-        pieces: &[
-            WORD,
-            POINTER,
-            AT,
-            Piece {
-                at: 0x516,
-                bytes: b"\x01\x00",
-            },
-        ],
+        pieces: &[WORD, POINTER, AT, Piece::Bytes(0x516, 2, 0x0100)],
         status: 7,
         text: "mptab: fault 1 BadRevision at 00000516\n",
     },
     Row {
         name: "sum before count",
         size: SMALL,
-        pieces: &[
-            WORD,
-            POINTER,
-            AT,
-            Piece {
-                at: 0x532,
-                bytes: b"\x02",
-            },
-        ],
+        pieces: &[WORD, POINTER, AT, Piece::Bytes(0x532, 1, 0x02)],
         status: 7,
         text: "mptab: fault 8 BadSum at 00000517\n",
     },
     Row {
         name: "sum before an unknown entry",
         size: SMALL,
-        pieces: &[
-            WORD,
-            POINTER,
-            AT,
-            Piece {
-                at: 0x53C,
-                bytes: b"\x05",
-            },
-        ],
+        pieces: &[WORD, POINTER, AT, Piece::Bytes(0x53C, 1, 0x05)],
         status: 7,
         text: "mptab: fault 8 BadSum at 00000517\n",
     },
@@ -636,18 +416,9 @@ end
             WORD,
             POINTER,
             AT,
-            Piece {
-                at: 0x532,
-                bytes: b"\x02",
-            },
-            Piece {
-                at: 0x53C,
-                bytes: b"\x05",
-            },
-            Piece {
-                at: 0x517,
-                bytes: b"\x93",
-            },
+            Piece::Bytes(0x532, 1, 0x02),
+            Piece::Bytes(0x53C, 1, 0x05),
+            Piece::Bytes(0x517, 1, 0x93),
         ],
         status: 7,
         text: "mptab: fault 10 UnknownEntry at 0000053C\n",
@@ -659,18 +430,9 @@ end
             WORD,
             POINTER,
             AT,
-            Piece {
-                at: 0x532,
-                bytes: b"\x02",
-            },
-            Piece {
-                at: 0x514,
-                bytes: b"\x3F",
-            },
-            Piece {
-                at: 0x517,
-                bytes: b"\x99",
-            },
+            Piece::Bytes(0x532, 1, 0x02),
+            Piece::Bytes(0x514, 1, 0x3F),
+            Piece::Bytes(0x517, 1, 0x99),
         ],
         status: 7,
         text: "mptab: fault 11 CutEntry at 0000053C\n",
@@ -682,18 +444,9 @@ end
             WORD,
             POINTER,
             AT,
-            Piece {
-                at: 0x532,
-                bytes: b"\x02",
-            },
-            Piece {
-                at: 0x538,
-                bytes: b"\x01",
-            },
-            Piece {
-                at: 0x517,
-                bytes: b"\x97",
-            },
+            Piece::Bytes(0x532, 1, 0x02),
+            Piece::Bytes(0x538, 1, 0x01),
+            Piece::Bytes(0x517, 1, 0x97),
         ],
         status: 7,
         text: "mptab: fault 9 BadCount at 00000532\n",
@@ -705,22 +458,10 @@ end
             WORD,
             POINTER,
             AT,
-            Piece {
-                at: 0x532,
-                bytes: b"\x02",
-            },
-            Piece {
-                at: 0x538,
-                bytes: b"\x02\x00\x00",
-            },
-            Piece {
-                at: 0x517,
-                bytes: b"\x96",
-            },
-            Piece {
-                at: 0x550,
-                bytes: b"\xC8\x02",
-            },
+            Piece::Bytes(0x532, 1, 0x02),
+            Piece::Bytes(0x538, 3, 0x020000),
+            Piece::Bytes(0x517, 1, 0x96),
+            Piece::Bytes(0x550, 2, 0xC802),
         ],
         status: 7,
         text: "mptab: fault 9 BadCount at 00000532\n",
@@ -732,18 +473,9 @@ end
             WORD,
             POINTER,
             AT,
-            Piece {
-                at: 0x538,
-                bytes: b"\x01",
-            },
-            Piece {
-                at: 0x53C,
-                bytes: b"\x05",
-            },
-            Piece {
-                at: 0x517,
-                bytes: b"\x93",
-            },
+            Piece::Bytes(0x538, 1, 0x01),
+            Piece::Bytes(0x53C, 1, 0x05),
+            Piece::Bytes(0x517, 1, 0x93),
         ],
         status: 7,
         text: "mptab: fault 12 ExtOutside at 00000538\n",
@@ -755,18 +487,9 @@ end
             WORD,
             POINTER,
             AT,
-            Piece {
-                at: 0x514,
-                bytes: b"\x3F",
-            },
-            Piece {
-                at: 0x538,
-                bytes: b"\x02",
-            },
-            Piece {
-                at: 0x517,
-                bytes: b"\x98",
-            },
+            Piece::Bytes(0x514, 1, 0x3F),
+            Piece::Bytes(0x538, 1, 0x02),
+            Piece::Bytes(0x517, 1, 0x98),
         ],
         status: 7,
         text: "mptab: fault 12 ExtOutside at 00000538\n",
@@ -778,22 +501,10 @@ end
             WORD,
             POINTER,
             AT,
-            Piece {
-                at: 0x538,
-                bytes: b"\x02\x00\x00",
-            },
-            Piece {
-                at: 0x53C,
-                bytes: b"\x05",
-            },
-            Piece {
-                at: 0x517,
-                bytes: b"\x92",
-            },
-            Piece {
-                at: 0x550,
-                bytes: b"\xC8\x02",
-            },
+            Piece::Bytes(0x538, 3, 0x020000),
+            Piece::Bytes(0x53C, 1, 0x05),
+            Piece::Bytes(0x517, 1, 0x92),
+            Piece::Bytes(0x550, 2, 0xC802),
         ],
         status: 7,
         text: "mptab: fault 13 BadExtSum at 0000053A\n",
@@ -805,18 +516,9 @@ end
             WORD,
             POINTER,
             AT,
-            Piece {
-                at: 0x538,
-                bytes: b"\x02\x00\x00",
-            },
-            Piece {
-                at: 0x517,
-                bytes: b"\x97",
-            },
-            Piece {
-                at: 0x550,
-                bytes: b"\x7F\x02",
-            },
+            Piece::Bytes(0x538, 3, 0x020000),
+            Piece::Bytes(0x517, 1, 0x97),
+            Piece::Bytes(0x550, 2, 0x7F02),
         ],
         status: 7,
         text: "mptab: fault 13 BadExtSum at 0000053A\n",
@@ -828,22 +530,10 @@ end
             WORD,
             POINTER,
             AT,
-            Piece {
-                at: 0x538,
-                bytes: b"\x02\x00\x7F",
-            },
-            Piece {
-                at: 0x53C,
-                bytes: b"\x05",
-            },
-            Piece {
-                at: 0x517,
-                bytes: b"\x13",
-            },
-            Piece {
-                at: 0x550,
-                bytes: b"\x7F\x02",
-            },
+            Piece::Bytes(0x538, 3, 0x02007F),
+            Piece::Bytes(0x53C, 1, 0x05),
+            Piece::Bytes(0x517, 1, 0x13),
+            Piece::Bytes(0x550, 2, 0x7F02),
         ],
         status: 7,
         text: "mptab: fault 10 UnknownEntry at 0000053C\n",
@@ -855,22 +545,10 @@ end
             WORD,
             POINTER,
             AT,
-            Piece {
-                at: 0x514,
-                bytes: b"\x3F",
-            },
-            Piece {
-                at: 0x538,
-                bytes: b"\x02\x00\x7F",
-            },
-            Piece {
-                at: 0x517,
-                bytes: b"\x19",
-            },
-            Piece {
-                at: 0x54F,
-                bytes: b"\x7F\x02",
-            },
+            Piece::Bytes(0x514, 1, 0x3F),
+            Piece::Bytes(0x538, 3, 0x02007F),
+            Piece::Bytes(0x517, 1, 0x19),
+            Piece::Bytes(0x54F, 2, 0x7F02),
         ],
         status: 7,
         text: "mptab: fault 11 CutEntry at 0000053C\n",
@@ -882,18 +560,9 @@ end
             WORD,
             POINTER,
             AT,
-            Piece {
-                at: 0x514,
-                bytes: b"\x42",
-            },
-            Piece {
-                at: 0x550,
-                bytes: b"\x05\x01",
-            },
-            Piece {
-                at: 0x517,
-                bytes: b"\x91",
-            },
+            Piece::Bytes(0x514, 1, 0x42),
+            Piece::Bytes(0x550, 2, 0x0501),
+            Piece::Bytes(0x517, 1, 0x91),
         ],
         status: 7,
         text: "mptab: fault 10 UnknownEntry at 00000550\n",
@@ -905,18 +574,9 @@ end
             WORD,
             POINTER,
             AT,
-            Piece {
-                at: 0x538,
-                bytes: b"\x03\x00\xB8",
-            },
-            Piece {
-                at: 0x517,
-                bytes: b"\xDE",
-            },
-            Piece {
-                at: 0x550,
-                bytes: b"\xC8\x01\x7F",
-            },
+            Piece::Bytes(0x538, 3, 0x0300B8),
+            Piece::Bytes(0x517, 1, 0xDE),
+            Piece::Bytes(0x550, 3, 0xC8017F),
         ],
         status: 7,
         text: "mptab: fault 15 BadExtLength at 00000551\n",
@@ -929,10 +589,7 @@ const DEFAULTS: &[Row] = &[
         size: SMALL,
         pieces: &[
             WORD,
-            Piece {
-                at: 0x500,
-                bytes: b"_MP_\x00\x00\x00\x00\x01\x04\xA0\x00\x00\x00\x00\x00",
-            },
+            Piece::Bytes(0x500, 16, 0x5F4D505F_00000000_0104A000_00000000),
         ],
         status: 7,
         text: "mptab: fault 3 NoTable at 00000504\n",
@@ -942,10 +599,7 @@ const DEFAULTS: &[Row] = &[
         size: SMALL,
         pieces: &[
             WORD,
-            Piece {
-                at: 0x500,
-                bytes: b"_MP_\x00\x00\x00\x00\x01\x04\x9F\x01\x00\x00\x00\x00",
-            },
+            Piece::Bytes(0x500, 16, 0x5F4D505F_00000000_01049F01_00000000),
         ],
         status: 0,
         text: "mptable 1
@@ -958,10 +612,7 @@ end
         size: SMALL,
         pieces: &[
             WORD,
-            Piece {
-                at: 0x500,
-                bytes: b"_MP_\x00\x00\x00\x00\x01\x04\x9E\x02\x00\x00\x00\x00",
-            },
+            Piece::Bytes(0x500, 16, 0x5F4D505F_00000000_01049E02_00000000),
         ],
         status: 0,
         text: "mptable 1
@@ -974,10 +625,7 @@ end
         size: SMALL,
         pieces: &[
             WORD,
-            Piece {
-                at: 0x500,
-                bytes: b"_MP_\x00\x00\x00\x00\x01\x04\x9D\x03\x00\x00\x00\x00",
-            },
+            Piece::Bytes(0x500, 16, 0x5F4D505F_00000000_01049D03_00000000),
         ],
         status: 0,
         text: "mptable 1
@@ -990,10 +638,7 @@ end
         size: SMALL,
         pieces: &[
             WORD,
-            Piece {
-                at: 0x500,
-                bytes: b"_MP_\x00\x00\x00\x00\x01\x04\x9C\x04\x00\x00\x00\x00",
-            },
+            Piece::Bytes(0x500, 16, 0x5F4D505F_00000000_01049C04_00000000),
         ],
         status: 0,
         text: "mptable 1
@@ -1006,10 +651,7 @@ end
         size: SMALL,
         pieces: &[
             WORD,
-            Piece {
-                at: 0x500,
-                bytes: b"_MP_\x00\x00\x00\x00\x01\x04\x9B\x05\x00\x00\x00\x00",
-            },
+            Piece::Bytes(0x500, 16, 0x5F4D505F_00000000_01049B05_00000000),
         ],
         status: 0,
         text: "mptable 1
@@ -1022,10 +664,7 @@ end
         size: SMALL,
         pieces: &[
             WORD,
-            Piece {
-                at: 0x500,
-                bytes: b"_MP_\x00\x00\x00\x00\x01\x04\x9A\x06\x00\x00\x00\x00",
-            },
+            Piece::Bytes(0x500, 16, 0x5F4D505F_00000000_01049A06_00000000),
         ],
         status: 0,
         text: "mptable 1
@@ -1038,10 +677,7 @@ end
         size: SMALL,
         pieces: &[
             WORD,
-            Piece {
-                at: 0x500,
-                bytes: b"_MP_\x00\x00\x00\x00\x01\x04\x99\x07\x00\x00\x00\x00",
-            },
+            Piece::Bytes(0x500, 16, 0x5F4D505F_00000000_01049907_00000000),
         ],
         status: 0,
         text: "mptable 1
@@ -1054,10 +690,7 @@ end
         size: SMALL,
         pieces: &[
             WORD,
-            Piece {
-                at: 0x500,
-                bytes: b"_MP_\x00\x00\x00\x00\x01\x04\x98\x08\x00\x00\x00\x00",
-            },
+            Piece::Bytes(0x500, 16, 0x5F4D505F_00000000_01049808_00000000),
         ],
         status: 7,
         text: "mptab: fault 2 BadDefault at 0000050B\n",
@@ -1067,10 +700,7 @@ end
         size: SMALL,
         pieces: &[
             WORD,
-            Piece {
-                at: 0x500,
-                bytes: b"_MP_\x00\x00\x00\x00\x01\x04\x20\x80\x00\x00\x00\x00",
-            },
+            Piece::Bytes(0x500, 16, 0x5F4D505F_00000000_01042080_00000000),
         ],
         status: 7,
         text: "mptab: fault 2 BadDefault at 0000050B\n",
@@ -1080,10 +710,7 @@ end
         size: SMALL,
         pieces: &[
             WORD,
-            Piece {
-                at: 0x500,
-                bytes: b"_MP_\x00\x00\x00\x00\x01\x04\xA1\xFF\x00\x00\x00\x00",
-            },
+            Piece::Bytes(0x500, 16, 0x5F4D505F_00000000_0104A1FF_00000000),
         ],
         status: 7,
         text: "mptab: fault 2 BadDefault at 0000050B\n",

@@ -1,8 +1,6 @@
 //! Images read by windows: what is asked of them, and tables at the ends of what is searched.
 
-use crate::harness::{
-    Answer, NAME, POINTER, Piece, TABLE, answer_of, image_with, same, shelf_with,
-};
+use crate::harness::{Answer, NAME, POINTER, Piece, answer_of, image_with, same, shelf_with};
 use std::alloc::Global;
 use std::test::Fail;
 
@@ -23,13 +21,7 @@ fn shown(alloc: Global, size: usize, pieces: &[Piece]) -> Result<(Answer, u64), 
 }
 
 /// The board with one processor, its table directly after its pointer.
-const BOARD: &[Piece] = &[
-    POINTER,
-    Piece {
-        at: 0xF0010,
-        bytes: TABLE,
-    },
-];
+const BOARD: &[Piece] = &[POINTER, Piece::Table(0xF0010)];
 
 /// The largest image, zero but for the board.
 #[test]
@@ -42,14 +34,8 @@ fn largest_image(rt: HostRuntime) -> Result<(), Fail> {
 
 /// The pointer at F0000h names FFFFC0h, 64 bytes before the end of the largest image.
 const AT_THE_END: &[Piece] = &[
-    Piece {
-        at: 0xF0000,
-        bytes: b"_MP_\xC0\xFF\xFF\x00\x01\x04\xE2\x00\x00\x00\x00\x00",
-    },
-    Piece {
-        at: 0xFF_FFC0,
-        bytes: TABLE,
-    },
+    Piece::Bytes(0xF0000, 16, 0x5F4D505F_C0FFFF00_0104E200_00000000),
+    Piece::Table(0xFF_FFC0),
 ];
 
 /// The table ends with the largest image.
@@ -67,18 +53,9 @@ fn table_at_the_end_of_the_largest_image(rt: HostRuntime) -> Result<(), Fail> {
 
 /// Pointer and table in the area of an EBDA that starts at 10h.
 const IN_THE_EBDA: &[Piece] = &[
-    Piece {
-        at: 0x40E,
-        bytes: b"\x01\x00",
-    },
-    Piece {
-        at: 0x10,
-        bytes: b"_MP_\x20\x00\x00\x00\x01\x04\x80\x00\x00\x00\x00\x00",
-    },
-    Piece {
-        at: 0x20,
-        bytes: TABLE,
-    },
+    Piece::Bytes(0x40E, 2, 0x0100),
+    Piece::Bytes(0x10, 16, 0x5F4D505F_20000000_01048000_00000000),
+    Piece::Table(0x20),
 ];
 
 /// Windows overlap: pointer and table lie in the area of the EBDA, in an image of 1,104 bytes, and more
