@@ -1,7 +1,7 @@
 //! Boards that tables and a script don't describe, each cause alone, beside the nearest that they do; how many
 //! processors and I/O APICs a board has, at each limit on both sides.
 
-use crate::harness::{BOTH, Row, first_wrong};
+use crate::harness::{BOTH, Row, first_wrong, same};
 use crate::tables::{Entry, Tables};
 use std::test::Fail;
 
@@ -458,13 +458,15 @@ entries 4
     },
 ];
 
-/// Each cause, in its place.
-const BOARDS: &[&[Row]] = &[IDS, PRESENT, PLACES, LIMITS];
-
 #[test]
 fn causes_alone(rt: HostRuntime) -> Result<(), Fail> {
-    for rows in BOARDS {
-        assert_eq!(rt; first_wrong(rt.alloc(), BOTH, rows)?, None);
-    }
+    let wrong = first_wrong(rt.alloc(), BOTH, IDS)?;
+    same(&rt, "ids", wrong, None);
+    let wrong = first_wrong(rt.alloc(), BOTH, PRESENT)?;
+    same(&rt, "present processors", wrong, None);
+    let wrong = first_wrong(rt.alloc(), BOTH, PLACES)?;
+    same(&rt, "places", wrong, None);
+    let wrong = first_wrong(rt.alloc(), BOTH, LIMITS)?;
+    same(&rt, "limits", wrong, None);
     Ok(())
 }

@@ -1,7 +1,7 @@
 //! Words that are no form, files that aren't there, and calls of shelf and sink that fail one by one.
 
 use crate::harness::{
-    Answer, BOTH, IMAGE, NOTHING, ONE, SCRIPT, answer_of, script_of, shelf_of, words_of,
+    Answer, BOTH, IMAGE, NOTHING, ONE, SCRIPT, answer_of, same, script_of, shelf_of, words_of,
 };
 use mpt_base::{MemShelf, MemSink};
 use mptab_calls::run;
@@ -10,45 +10,125 @@ use std::test::Fail;
 
 const USAGE: &str = "mptab: usage\n";
 
-/// Words, and the status and text that answer them, where an image, a script, and an image whose tables are
-/// refused are there.
-const WORDS: &[(&[&str], u8, &str)] = &[
-    (&["trace"], 2, USAGE),
-    (&["trace", IMAGE], 2, USAGE),
-    (&["trace", IMAGE, SCRIPT, SCRIPT], 2, USAGE),
-    (&["Trace", IMAGE, SCRIPT], 2, USAGE),
-    (&["boot"], 2, USAGE),
-    (&["boot", SCRIPT], 2, USAGE),
-    (&["boot", IMAGE, SCRIPT, SCRIPT], 2, USAGE),
-    (&["boot ", IMAGE, SCRIPT], 2, USAGE),
-    (&["trace", IMAGE, "x"], 3, "mptab: no file x\n"),
-    (&["boot", IMAGE, ""], 3, "mptab: no file \n"),
-    (&["trace", "x", SCRIPT], 3, "mptab: no file x\n"),
-    (&["boot", "x", "y"], 3, "mptab: no file x\n"),
-    (&["trace", SCRIPT, "x"], 6, "mptab: no floating pointer\n"),
-    (&["boot", SCRIPT, IMAGE], 6, "mptab: no floating pointer\n"),
-    (
-        &["trace", "bad", "x"],
-        7,
-        "mptab: fault 2 BadDefault at 0000040B\n",
-    ),
-    (
-        &["boot", "bad", SCRIPT],
-        7,
-        "mptab: fault 2 BadDefault at 0000040B\n",
-    ),
-    (&["trace", IMAGE, IMAGE], 8, "mptab: script not toml\n"),
-    (&["trace", IMAGE, SCRIPT], 0, NOTHING),
-    (&["boot", IMAGE, SCRIPT], 0, NOTHING),
+/// Words, and the status and text that answer them.
+struct Case {
+    words: &'static [&'static str],
+    status: u8,
+    text: &'static str,
+}
+
+/// An image, a script, and an image whose tables are refused are there.
+const WORDS: &[Case] = &[
+    Case {
+        words: &["trace"],
+        status: 2,
+        text: USAGE,
+    },
+    Case {
+        words: &["trace", IMAGE],
+        status: 2,
+        text: USAGE,
+    },
+    Case {
+        words: &["trace", IMAGE, SCRIPT, SCRIPT],
+        status: 2,
+        text: USAGE,
+    },
+    Case {
+        words: &["Trace", IMAGE, SCRIPT],
+        status: 2,
+        text: USAGE,
+    },
+    Case {
+        words: &["boot"],
+        status: 2,
+        text: USAGE,
+    },
+    Case {
+        words: &["boot", SCRIPT],
+        status: 2,
+        text: USAGE,
+    },
+    Case {
+        words: &["boot", IMAGE, SCRIPT, SCRIPT],
+        status: 2,
+        text: USAGE,
+    },
+    Case {
+        words: &["boot ", IMAGE, SCRIPT],
+        status: 2,
+        text: USAGE,
+    },
+    Case {
+        words: &["trace", IMAGE, "x"],
+        status: 3,
+        text: "mptab: no file x\n",
+    },
+    Case {
+        words: &["boot", IMAGE, ""],
+        status: 3,
+        text: "mptab: no file \n",
+    },
+    Case {
+        words: &["trace", "x", SCRIPT],
+        status: 3,
+        text: "mptab: no file x\n",
+    },
+    Case {
+        words: &["boot", "x", "y"],
+        status: 3,
+        text: "mptab: no file x\n",
+    },
+    Case {
+        words: &["trace", SCRIPT, "x"],
+        status: 6,
+        text: "mptab: no floating pointer\n",
+    },
+    Case {
+        words: &["boot", SCRIPT, IMAGE],
+        status: 6,
+        text: "mptab: no floating pointer\n",
+    },
+    Case {
+        words: &["trace", "bad", "x"],
+        status: 7,
+        text: "mptab: fault 2 BadDefault at 0000040B\n",
+    },
+    Case {
+        words: &["boot", "bad", SCRIPT],
+        status: 7,
+        text: "mptab: fault 2 BadDefault at 0000040B\n",
+    },
+    Case {
+        words: &["trace", IMAGE, IMAGE],
+        status: 8,
+        text: "mptab: script not toml\n",
+    },
+    Case {
+        words: &["trace", IMAGE, SCRIPT],
+        status: 0,
+        text: NOTHING,
+    },
+    Case {
+        words: &["boot", IMAGE, SCRIPT],
+        status: 0,
+        text: NOTHING,
+    },
 ];
 
 /// A floating pointer at 400h whose last bytes are the word that names 400h, with default configuration 8.
 const BAD_POINTER: &[u8] = b"_MP_\x00\x00\x00\x00\x01\x04\x58\x08\x00\x00\x40\x00";
 
-/// The shelf of these rows.
-fn shelf_of_words(alloc: Global) -> Result<MemShelf, Fail> {
+/// An image that ends with it.
+fn bad_image(alloc: Global) -> Result<Vec<u8>, Fail> {
     let mut bad = vec![in alloc; 0; 0x400]?;
     bad.extend_from_slice(BAD_POINTER)?;
+    Ok(bad)
+}
+
+/// The shelf of these rows.
+fn shelf_of_words(alloc: Global) -> Result<MemShelf, Fail> {
+    let bad = bad_image(alloc)?;
     let mut shelf = shelf_of(alloc, &ONE, b"page = 0x9F\n")?;
     shelf.add("bad", bad.as_slice())?;
     Ok(shelf)
@@ -57,9 +137,9 @@ fn shelf_of_words(alloc: Global) -> Result<MemShelf, Fail> {
 #[test]
 fn words(rt: HostRuntime) -> Result<(), Fail> {
     let mut shelf = shelf_of_words(rt.alloc())?;
-    for (n, (words, status, text)) in WORDS.iter().enumerate() {
-        let answer = answer_of(rt.alloc(), words, &mut shelf, 0)?;
-        assert!(rt; answer.is(*status, text), "row {n}");
+    for (n, case) in WORDS.iter().enumerate() {
+        let answer = answer_of(rt.alloc(), case.words, &mut shelf, 0)?;
+        assert!(rt; answer.is(case.status, case.text), "row {n}");
     }
     Ok(())
 }
@@ -125,7 +205,8 @@ fn first_wrong_call(alloc: Global, command: &str) -> Result<Option<u64>, Fail> {
 #[test]
 fn calls_of_the_shelf(rt: HostRuntime) -> Result<(), Fail> {
     for command in BOTH {
-        assert_eq!(rt; first_wrong_call(rt.alloc(), command)?, None);
+        let wrong = first_wrong_call(rt.alloc(), command)?;
+        same(&rt, command, wrong, None);
     }
     Ok(())
 }
@@ -139,17 +220,19 @@ const PUTS: &[(u64, u64, u8, usize)] = &[
     (8, 1, 5, 0),
 ];
 
+/// Whether an answer is this status with no more than so many bytes of the report.
+fn is_cut(answer: &Answer, status: u8, whole: &[u8], most: usize) -> bool {
+    let written = whole.get(..most).unwrap_or(whole);
+    answer.status == status && answer.text.as_slice() == written
+}
+
 #[test]
 fn puts_of_the_sink(rt: HostRuntime) -> Result<(), Fail> {
     let report = long_report(rt.alloc())?;
     for (call, put, status, most) in PUTS {
         let answer = long_answer(rt.alloc(), "trace", *call, *put)?;
-        let whole = report.as_str().as_bytes();
-        let written = whole.get(..*most).unwrap_or(whole);
-        assert!(rt;
-            answer.status == *status && answer.text.as_slice() == written,
-            "call {call}, put {put}"
-        );
+        let holds = is_cut(&answer, *status, report.as_str().as_bytes(), *most);
+        assert!(rt; holds, "call {call}, put {put}");
     }
     Ok(())
 }

@@ -4,6 +4,8 @@ use crate::tables::{Entry, Tables, listing_of};
 use mpt_base::{MemShelf, MemSink};
 use mptab_calls::run_still;
 use std::alloc::Global;
+use std::fmt::Debug;
+use std::process::Abort;
 use std::test::Fail;
 
 /// The name under which an image lies on the shelf.
@@ -60,6 +62,11 @@ impl Answer {
             written == text.as_bytes()
         }
     }
+}
+
+/// Asserts that two values are the same, at one place for every row.
+pub(crate) fn same<T: PartialEq + Debug + Drop>(rt: &impl Abort, name: &str, got: T, want: T) {
+    assert_eq!(rt; got, want, "{name}");
 }
 
 /// These words, as the top call takes them.

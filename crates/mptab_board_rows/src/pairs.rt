@@ -1,6 +1,6 @@
 //! Two causes that stand together: the one that is told.
 
-use crate::harness::{BOTH, Row, first_wrong};
+use crate::harness::{BOTH, Row, first_wrong, same};
 use crate::tables::{Entry, Tables};
 use std::test::Fail;
 
@@ -125,6 +125,7 @@ cpu = [{ id = 1, words = [\"ioread 0\"] }]
 
 #[test]
 fn first_of_two_causes(rt: HostRuntime) -> Result<(), Fail> {
-    assert_eq!(rt; first_wrong(rt.alloc(), BOTH, PAIRS)?, None);
+    let wrong = first_wrong(rt.alloc(), BOTH, PAIRS)?;
+    same(&rt, "the first wrong row", wrong, None);
     Ok(())
 }

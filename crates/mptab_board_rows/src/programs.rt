@@ -1,7 +1,7 @@
 //! Boot programs: of each default configuration, of boards whose reports were worked out whole, and of a
 //! usual board.
 
-use crate::harness::{BOTH, Row, first_wrong};
+use crate::harness::{BOTH, Row, first_wrong, same};
 use crate::tables::{Entry, Tables};
 use std::test::Fail;
 
@@ -356,13 +356,13 @@ present = [1]
     },
 ];
 
-/// All of them.
-const PROGRAMS: &[&[Row]] = &[DEFAULTS, WRITTEN, OF_USUAL];
-
 #[test]
 fn boot_programs(rt: HostRuntime) -> Result<(), Fail> {
-    for rows in PROGRAMS {
-        assert_eq!(rt; first_wrong(rt.alloc(), BOTH, rows)?, None);
-    }
+    let wrong = first_wrong(rt.alloc(), BOTH, DEFAULTS)?;
+    same(&rt, "default configurations", wrong, None);
+    let wrong = first_wrong(rt.alloc(), BOTH, WRITTEN)?;
+    same(&rt, "whole reports", wrong, None);
+    let wrong = first_wrong(rt.alloc(), BOTH, OF_USUAL)?;
+    same(&rt, "the usual board", wrong, None);
     Ok(())
 }

@@ -1,7 +1,8 @@
 //! Scripts that are refused, each key and each word's cause, and scripts at their limits.
 
-use crate::harness::{BOTH, NOTHING, ONE, Row, answer_to, first_wrong, script_of};
+use crate::harness::{Answer, BOTH, NOTHING, ONE, Row, answer_to, first_wrong, same, script_of};
 use crate::tables::{Entry, Tables};
+use std::alloc::Global;
 use std::test::Fail;
 
 /// Scripts that are refused, the last two before their boards.
@@ -152,7 +153,8 @@ device = [{ words = [\"take\"] }]
 
 #[test]
 fn scripts_that_are_refused(rt: HostRuntime) -> Result<(), Fail> {
-    assert_eq!(rt; first_wrong(rt.alloc(), BOTH, REFUSED)?, None);
+    let wrong = first_wrong(rt.alloc(), BOTH, REFUSED)?;
+    same(&rt, "the first wrong row", wrong, None);
     Ok(())
 }
 
@@ -169,11 +171,16 @@ const SIZES: &[(usize, usize, u8, &str)] = &[
     (0, 1_048_577, 10, "mptab: too large boot.toml 1048577\n"),
 ];
 
+/// The answer to one processor with so many words, where the script is filled up to so many bytes.
+fn answer_to_size(alloc: Global, words: usize, bytes: usize) -> Result<Answer, Fail> {
+    let script = script_of(alloc, "\"eoi\",", words, bytes)?;
+    answer_to(alloc, "trace", &ONE, script.as_slice())
+}
+
 #[test]
 fn sizes_of_scripts(rt: HostRuntime) -> Result<(), Fail> {
     for (words, bytes, status, text) in SIZES {
-        let script = script_of(rt.alloc(), "\"eoi\",", *words, *bytes)?;
-        let answer = answer_to(rt.alloc(), "trace", &ONE, script.as_slice())?;
+        let answer = answer_to_size(rt.alloc(), *words, *bytes)?;
         assert!(rt; answer.is(*status, text), "{words} words, {bytes} bytes");
     }
     Ok(())

@@ -1,7 +1,7 @@
 //! Whole reports that were worked out by hand: processors that start or don't, an edge pin that three devices
 //! pulse, a level pin that is sent again.
 
-use crate::harness::{BOTH, Row, first_wrong};
+use crate::harness::{BOTH, Row, first_wrong, same};
 use crate::tables::{Entry, Tables};
 use std::test::Fail;
 
@@ -20,57 +20,6 @@ const LEVEL_PIN: Tables = Tables::Listed(
 ioint kind 00 flags 0000 bus 00 irq 00 dest 01 pin 10
 ",
 );
-
-const TWO_PROCESSORS: Row = Row {
-    name: "two processors: the second is started",
-    tables: Tables::Listed(&[Entry::Boot(0), Entry::Cpu(1)], ""),
-    script: "page = 0x9F\n",
-    status: 0,
-    text: "mpboot 1
-entries 7
-0 cpu 00 init 01 : 01=waiting
-1 cpu 00 pause 10000 : done
-2 cpu 00 startup 01 9F : 01=started.9F
-3 cpu 00 pause 200 : done
-4 cpu 00 startup 01 9F : 01=ignored
-5 cpu 00 pause 200 : done
-6 cpu 00 check 01 : 01=runs.9F
-state imcr none
-state cpu 00 first tpr 00 irr - isr - tmr -
-state cpu 01 started.9F tpr 00 irr - isr - tmr -
-end
-",
-};
-
-const OLDER_AND_ABSENT: Row = Row {
-    name: "an older processor is started by the warm-reset vector, an absent one answers nothing",
-    tables: Tables::Listed(
-        &[Entry::Boot(0)],
-        "processor id 01 version 01 flags 01 signature 00000000 features 00000000 reserved 0000000000000000
-processor id 02 version 10 flags 01 signature 00000000 features 00000000 reserved 0000000000000000
-",
-    ),
-    script: "page = 0x9F\npresent = [0, 1]\n",
-    status: 0,
-    text: "mpboot 1
-entries 11
-0 cpu 00 warm 9F : done
-1 cpu 00 init 01 : 01=started.9F
-2 cpu 00 pause 10000 : done
-3 cpu 00 check 01 : 01=runs.9F
-4 cpu 00 init 02 : 02=absent
-5 cpu 00 pause 10000 : done
-6 cpu 00 startup 02 9F : 02=absent
-7 cpu 00 pause 200 : done
-8 cpu 00 startup 02 9F : 02=absent
-9 cpu 00 pause 200 : done
-10 cpu 00 check 02 : 02=absent
-state imcr none
-state cpu 00 first tpr 00 irr - isr - tmr -
-state cpu 01 started.9F tpr 00 irr - isr - tmr -
-end
-",
-};
 
 /// What three devices make of one pin, taken and ended.
 const THREE_PULSES: &str = "mpboot 1
@@ -99,40 +48,90 @@ state io 0 line 000000 due 000000 remote 000000
 end
 ";
 
-const THREE_DEVICES: Row = Row {
-    name: "three devices pulse one pin, which is sent once",
-    tables: ONE_PIN,
-    script: "page = 0x9F
+/// Rows that each command answers with the same report.
+const BY_BOTH: &[Row] = &[
+    Row {
+        name: "two processors: the second is started",
+        tables: Tables::Listed(&[Entry::Boot(0), Entry::Cpu(1)], ""),
+        script: "page = 0x9F\n",
+        status: 0,
+        text: "mpboot 1
+entries 7
+0 cpu 00 init 01 : 01=waiting
+1 cpu 00 pause 10000 : done
+2 cpu 00 startup 01 9F : 01=started.9F
+3 cpu 00 pause 200 : done
+4 cpu 00 startup 01 9F : 01=ignored
+5 cpu 00 pause 200 : done
+6 cpu 00 check 01 : 01=runs.9F
+state imcr none
+state cpu 00 first tpr 00 irr - isr - tmr -
+state cpu 01 started.9F tpr 00 irr - isr - tmr -
+end
+",
+    },
+    Row {
+        name: "an older processor is started by the warm-reset vector, an absent one answers nothing",
+        tables: Tables::Listed(
+            &[Entry::Boot(0)],
+            "processor id 01 version 01 flags 01 signature 00000000 features 00000000 reserved 0000000000000000
+processor id 02 version 10 flags 01 signature 00000000 features 00000000 reserved 0000000000000000
+",
+        ),
+        script: "page = 0x9F\npresent = [0, 1]\n",
+        status: 0,
+        text: "mpboot 1
+entries 11
+0 cpu 00 warm 9F : done
+1 cpu 00 init 01 : 01=started.9F
+2 cpu 00 pause 10000 : done
+3 cpu 00 check 01 : 01=runs.9F
+4 cpu 00 init 02 : 02=absent
+5 cpu 00 pause 10000 : done
+6 cpu 00 startup 02 9F : 02=absent
+7 cpu 00 pause 200 : done
+8 cpu 00 startup 02 9F : 02=absent
+9 cpu 00 pause 200 : done
+10 cpu 00 check 02 : 02=absent
+state imcr none
+state cpu 00 first tpr 00 irr - isr - tmr -
+state cpu 01 started.9F tpr 00 irr - isr - tmr -
+end
+",
+    },
+    Row {
+        name: "three devices pulse one pin, which is sent once",
+        tables: ONE_PIN,
+        script: "page = 0x9F
 cpu = [{ id = 0, words = [\"take\", \"eoi\"] }]
 device = [{ words = [\"pulse 0 1\"] }, { words = [\"pulse 0 1\"] }, { words = [\"pulse 0 1\"] }]
 ",
-    status: 0,
-    text: THREE_PULSES,
-};
+        status: 0,
+        text: THREE_PULSES,
+    },
+];
 
-/// Rows that each command answers with the same report.
-const BY_BOTH: &[Row] = &[TWO_PROCESSORS, OLDER_AND_ABSENT, THREE_DEVICES];
-
-const WAITS_AT_ITS_LAST_WORD: Row = Row {
-    name: "the processor waits at a take without a vector",
-    tables: ONE_PIN,
-    script: "page = 0x9F
+/// Rows whose report is that of the round robin.
+const BY_TURNS: &[Row] = &[
+    Row {
+        name: "the processor waits at a take without a vector",
+        tables: ONE_PIN,
+        script: "page = 0x9F
 cpu = [{ id = 0, words = [\"take\", \"eoi\", \"take\"] }]
 device = [{ words = [\"pulse 0 1\"] }, { words = [\"pulse 0 1\"] }, { words = [\"pulse 0 1\"] }]
 ",
-    status: 0,
-    text: THREE_PULSES,
-};
-
-const READS_AND_POLLS: Row = Row {
-    name: "the version register is read, and the processor polls before the pin is sent",
-    tables: ONE_PIN,
-    script: "page = 0x9F
+        status: 0,
+        text: THREE_PULSES,
+    },
+    Row {
+        name: "the version register is read, and the processor polls before the pin is sent",
+        tables: ONE_PIN,
+        script: "page = 0x9F
 cpu = [{ id = 0, words = [\"iosel 0 1\", \"ioread 0\", \"poll\"] }]
 device = [{ words = [\"pulse 0 1\"] }, { words = [\"pulse 0 1\"] }, { words = [\"pulse 0 1\"] }]
 ",
-    status: 0,
-    text: "mpboot 1
+        status: 0,
+        text: "mpboot 1
 entries 16
 0 cpu 00 iosel 0 13 : done
 1 cpu 00 iowin 0 00000000 : plain
@@ -158,17 +157,16 @@ state cpu 00 first tpr 00 irr 21 isr - tmr -
 state io 0 line 000000 due 000000 remote 000000
 end
 ",
-};
-
-const STAYS_HIGH: Row = Row {
-    name: "a level pin that stays high is sent again after its end of interrupt",
-    tables: LEVEL_PIN,
-    script: "page = 0x9F
+    },
+    Row {
+        name: "a level pin that stays high is sent again after its end of interrupt",
+        tables: LEVEL_PIN,
+        script: "page = 0x9F
 cpu = [{ id = 0, words = [\"take\", \"eoi\"] }]
 device = [{ words = [\"high 0 16\"] }]
 ",
-    status: 0,
-    text: "mpboot 1
+        status: 0,
+        text: "mpboot 1
 entries 12
 0 cpu 00 iosel 0 31 : done
 1 cpu 00 iowin 0 00000000 : plain
@@ -188,17 +186,16 @@ state cpu 00 first tpr 00 irr 30 isr - tmr 30
 state io 0 line 010000 due 000000 remote 010000
 end
 ",
-};
-
-const FALLS: Row = Row {
-    name: "a level pin that fell is sent once",
-    tables: LEVEL_PIN,
-    script: "page = 0x9F
+    },
+    Row {
+        name: "a level pin that fell is sent once",
+        tables: LEVEL_PIN,
+        script: "page = 0x9F
 cpu = [{ id = 0, words = [\"take\", \"eoi\"] }]
 device = [{ words = [\"high 0 16\", \"low 0 16\"] }]
 ",
-    status: 0,
-    text: "mpboot 1
+        status: 0,
+        text: "mpboot 1
 entries 12
 0 cpu 00 iosel 0 31 : done
 1 cpu 00 iowin 0 00000000 : plain
@@ -218,18 +215,14 @@ state cpu 00 first tpr 00 irr - isr - tmr 30
 state io 0 line 000000 due 000000 remote 000000
 end
 ",
-};
-
-/// Rows whose report is that of the round robin.
-const BY_TURNS: &[Row] = &[WAITS_AT_ITS_LAST_WORD, READS_AND_POLLS, STAYS_HIGH, FALLS];
-
-/// The rows, each with the commands that answer them.
-const REPORTS: &[(&[&str], &[Row])] = &[(BOTH, BY_BOTH), (&["trace"], BY_TURNS)];
+    },
+];
 
 #[test]
 fn reports(rt: HostRuntime) -> Result<(), Fail> {
-    for (commands, rows) in REPORTS {
-        assert_eq!(rt; first_wrong(rt.alloc(), commands, rows)?, None);
-    }
+    let wrong = first_wrong(rt.alloc(), BOTH, BY_BOTH)?;
+    same(&rt, "reports of both commands", wrong, None);
+    let wrong = first_wrong(rt.alloc(), &["trace"], BY_TURNS)?;
+    same(&rt, "reports of the round robin", wrong, None);
     Ok(())
 }

@@ -2,8 +2,8 @@
 
 use crate::board::{HEAD, board_with};
 use crate::harness::{
-    Answer, NAME, POINTER, ROOM, SMALL_POINTER, TABLE, WORD, answer_of, image_with, shelf_with,
-    words_of,
+    Answer, NAME, POINTER, Piece, ROOM, SMALL_POINTER, WORD, answer_of, image_with, same,
+    shelf_with, words_of,
 };
 use mpt_base::{MemShelf, MemSink};
 use mptab_calls::run;
@@ -20,32 +20,90 @@ end
 
 const USAGE: &str = "mptab: usage\n";
 
-/// Words, and the status and text that answer them, where no file but the board's is there.
-const WORDS: &[(&[&str], u8, &str)] = &[
-    (&[], 2, USAGE),
-    (&["show"], 2, USAGE),
-    (&["show", NAME, NAME], 2, USAGE),
-    (&["Show", NAME], 2, USAGE),
-    (&["show ", NAME], 2, USAGE),
-    (&["", NAME], 2, USAGE),
-    (&[NAME, "show"], 2, USAGE),
-    (&["show", ""], 3, "mptab: no file \n"),
-    (&["show", "x"], 3, "mptab: no file x\n"),
-    (&["show", NAME], 0, LISTING),
+/// Words, and the status and text that answer them.
+struct Case {
+    words: &'static [&'static str],
+    status: u8,
+    text: &'static str,
+}
+
+/// No file but the board's is there.
+const WORDS: &[Case] = &[
+    Case {
+        words: &[],
+        status: 2,
+        text: USAGE,
+    },
+    Case {
+        words: &["show"],
+        status: 2,
+        text: USAGE,
+    },
+    Case {
+        words: &["show", NAME, NAME],
+        status: 2,
+        text: USAGE,
+    },
+    Case {
+        words: &["Show", NAME],
+        status: 2,
+        text: USAGE,
+    },
+    Case {
+        words: &["show ", NAME],
+        status: 2,
+        text: USAGE,
+    },
+    Case {
+        words: &["", NAME],
+        status: 2,
+        text: USAGE,
+    },
+    Case {
+        words: &[NAME, "show"],
+        status: 2,
+        text: USAGE,
+    },
+    Case {
+        words: &["show", ""],
+        status: 3,
+        text: "mptab: no file \n",
+    },
+    Case {
+        words: &["show", "x"],
+        status: 3,
+        text: "mptab: no file x\n",
+    },
+    Case {
+        words: &["show", NAME],
+        status: 0,
+        text: LISTING,
+    },
 ];
 
-/// A shelf with the board's image, of which a call fails; 0 is none. The image ends with the table.
+/// The pieces of the board's image, which ends with the table.
+const SMALL_BOARD: &[Piece] = &[WORD, SMALL_POINTER, Piece::Table(0x510)];
+
+/// The board in an image of 1 MiB.
+const BOARD: &[Piece] = &[POINTER, Piece::Table(0xF0010)];
+
+/// A shelf with the board's image, of which a call fails; 0 is none.
 fn small_board(alloc: Global, failing: u64) -> Result<MemShelf, Fail> {
-    let image = image_with(alloc, 0x550, &[WORD, SMALL_POINTER, (0x510, TABLE)])?;
+    let image = image_with(alloc, 0x550, SMALL_BOARD)?;
     shelf_with(alloc, image.as_slice(), failing)
+}
+
+/// The answer to these words, where no call fails.
+fn small_answer(alloc: Global, words: &[&str]) -> Result<Answer, Fail> {
+    let mut shelf = small_board(alloc, 0)?;
+    answer_of(alloc, words, &mut shelf, 0)
 }
 
 #[test]
 fn words(rt: HostRuntime) -> Result<(), Fail> {
-    for (n, (words, status, text)) in WORDS.iter().enumerate() {
-        let mut shelf = small_board(rt.alloc(), 0)?;
-        let answer = answer_of(rt.alloc(), words, &mut shelf, 0)?;
-        assert!(rt; answer.is(*status, text.as_bytes()), "row {n}");
+    for (n, case) in WORDS.iter().enumerate() {
+        let answer = small_answer(rt.alloc(), case.words)?;
+        assert!(rt; answer.is(case.status, case.text.as_bytes()), "row {n}");
     }
     Ok(())
 }
@@ -56,8 +114,8 @@ fn top_call(rt: HostRuntime) -> Result<(), Fail> {
     let mut sink = MemSink::new(rt.alloc(), ROOM)?;
     let words = words_of(rt.alloc(), &["show", NAME])?;
     let status = run(&rt, rt.alloc(), words.as_slice(), &mut shelf, &mut sink);
-    assert_eq!(rt; status, 0);
-    assert_eq!(rt; sink.bytes(), LISTING.as_bytes());
+    same(&rt, "the status", status, 0);
+    same(&rt, "the text", sink.bytes(), LISTING.as_bytes());
     Ok(())
 }
 
@@ -65,8 +123,7 @@ fn top_call(rt: HostRuntime) -> Result<(), Fail> {
 /// its own image or words wanted the memory, it ends with that error.
 #[test]
 fn want_of_memory(rt: HostRuntime) -> Result<(), Fail> {
-    let mut shelf = small_board(rt.alloc(), 0)?;
-    let answer = answer_of(rt.alloc(), &["show", NAME], &mut shelf, 0)?;
+    let answer = small_answer(rt.alloc(), &["show", NAME])?;
     let refused = answer.is(9, b"mptab: no memory\n");
     assert!(rt; refused || answer.is(0, LISTING.as_bytes()));
     Ok(())
@@ -78,7 +135,7 @@ const MANY: u64 = 64;
 /// The answer of `show` to the board in an image of 1 MiB, where a call of the shelf fails. No byte is asked for
 /// twice.
 fn board_answer(alloc: Global, failing: u64) -> Result<Answer, Fail> {
-    let image = image_with(alloc, 0x100000, &[POINTER, (0xF0010, TABLE)])?;
+    let image = image_with(alloc, 0x100000, BOARD)?;
     let mut shelf = shelf_with(alloc, image.as_slice(), failing)?;
     let answer = answer_of(alloc, &["show", NAME], &mut shelf, 0)?;
     if shelf.asked_bytes() > 0x100000 {
@@ -130,35 +187,48 @@ fn failing_puts(alloc: Global, words: &[&str], image: &[u8], text: &[u8]) -> Res
 
 #[test]
 fn puts_of_the_sink(rt: HostRuntime) -> Result<(), Fail> {
-    let image = image_with(rt.alloc(), 0x550, &[WORD, SMALL_POINTER, (0x510, TABLE)])?;
-    for (words, _, text) in WORDS {
-        let puts = failing_puts(rt.alloc(), words, image.as_slice(), text.as_bytes())?;
+    let image = image_with(rt.alloc(), 0x550, SMALL_BOARD)?;
+    for case in WORDS {
+        let puts = failing_puts(
+            rt.alloc(),
+            case.words,
+            image.as_slice(),
+            case.text.as_bytes(),
+        )?;
         assert!(rt; puts > 0, "a put is made");
     }
     Ok(())
 }
 
-/// 200 buses with their listing, which is longer than a piece of 4,096 bytes.
-fn many_buses(alloc: Global) -> Result<(Vec<u8>, Vec<u8>), Fail> {
+/// 200 buses.
+fn many_buses(alloc: Global) -> Result<Vec<u8>, Fail> {
     let mut base = Vec::new(alloc);
-    let mut text = Vec::from_slice(alloc, HEAD.as_bytes())?;
     for _ in 0..200 {
         base.extend_from_slice(b"\x01\x07ISA   ")?;
+    }
+    board_with(alloc, base.as_slice(), 200, &[])
+}
+
+/// Their listing, which is longer than a piece of 4,096 bytes.
+fn many_lines(alloc: Global) -> Result<Vec<u8>, Fail> {
+    let mut text = Vec::from_slice(alloc, HEAD.as_bytes())?;
+    for _ in 0..200 {
         text.extend_from_slice(b"bus id 07 name \"ISA   \"\n")?;
     }
     text.extend_from_slice(b"end\n")?;
-    Ok((board_with(alloc, base.as_slice(), 200, &[])?, text))
+    Ok(text)
 }
 
 #[test]
 fn puts_of_a_long_text(rt: HostRuntime) -> Result<(), Fail> {
-    let (image, text) = many_buses(rt.alloc())?;
+    let image = many_buses(rt.alloc())?;
+    let text = many_lines(rt.alloc())?;
     let puts = failing_puts(
         rt.alloc(),
         &["show", NAME],
         image.as_slice(),
         text.as_slice(),
     )?;
-    assert_eq!(rt; puts, 2, "pieces of 4,096 bytes");
+    same(&rt, "the pieces of 4,096 bytes", puts, 2);
     Ok(())
 }

@@ -1,13 +1,13 @@
 //! The sixteen faults, one image for each and more, and which of two faults is named.
 
-use crate::harness::{Piece, Row, SMALL_POINTER as POINTER, TABLE, WORD, first_wrong};
+use crate::harness::{Piece, Row, SMALL_POINTER as POINTER, WORD, first_wrong, same};
 use std::test::Fail;
 
 /// The length of most images: the table ends there.
 const SMALL: usize = 0x550;
 
 /// The table, directly after the pointer.
-const AT: Piece = (0x510, TABLE);
+const AT: Piece = Piece::Table(0x510);
 
 const REASONS: &[Row] = &[
     Row {
@@ -15,10 +15,7 @@ const REASONS: &[Row] = &[
         size: SMALL,
         pieces: &[
             WORD,
-            (
-                0x500,
-                b"_MP_\x10\x05\x00\x00\x01\x01\x8E\x00\x00\x00\x00\x00",
-            ),
+            Piece::Bytes(0x500, 16, 0x5F4D505F_10050000_01018E00_00000000),
             AT,
         ],
         status: 7,
@@ -27,7 +24,7 @@ const REASONS: &[Row] = &[
     Row {
         name: "the table's revision is 1",
         size: SMALL,
-        pieces: &[WORD, POINTER, AT, (0x516, b"\x01")],
+        pieces: &[WORD, POINTER, AT, Piece::Bytes(0x516, 1, 0x01)],
         status: 7,
         text: "mptab: fault 1 BadRevision at 00000516\n",
     },
@@ -36,10 +33,7 @@ const REASONS: &[Row] = &[
         size: SMALL,
         pieces: &[
             WORD,
-            (
-                0x500,
-                b"_MP_\x10\x05\x00\x00\x01\x04\x83\x08\x00\x00\x00\x00",
-            ),
+            Piece::Bytes(0x500, 16, 0x5F4D505F_10050000_01048308_00000000),
             AT,
         ],
         status: 7,
@@ -50,10 +44,7 @@ const REASONS: &[Row] = &[
         size: SMALL,
         pieces: &[
             WORD,
-            (
-                0x500,
-                b"_MP_\x00\x00\x00\x00\x01\x04\xA0\x00\x00\x00\x00\x00",
-            ),
+            Piece::Bytes(0x500, 16, 0x5F4D505F_00000000_0104A000_00000000),
             AT,
         ],
         status: 7,
@@ -64,10 +55,7 @@ const REASONS: &[Row] = &[
         size: SMALL,
         pieces: &[
             WORD,
-            (
-                0x500,
-                b"_MP_\x25\x05\x00\x00\x01\x04\x76\x00\x00\x00\x00\x00",
-            ),
+            Piece::Bytes(0x500, 16, 0x5F4D505F_25050000_01047600_00000000),
             AT,
         ],
         status: 7,
@@ -78,10 +66,7 @@ const REASONS: &[Row] = &[
         size: SMALL,
         pieces: &[
             WORD,
-            (
-                0x500,
-                b"_MP_\x24\x05\x00\x00\x01\x04\x77\x00\x00\x00\x00\x00",
-            ),
+            Piece::Bytes(0x500, 16, 0x5F4D505F_24050000_01047700_00000000),
             AT,
         ],
         status: 7,
@@ -90,77 +75,113 @@ const REASONS: &[Row] = &[
     Row {
         name: "the last letter of the signature is small",
         size: SMALL,
-        pieces: &[WORD, POINTER, AT, (0x513, b"\x70")],
+        pieces: &[WORD, POINTER, AT, Piece::Bytes(0x513, 1, 0x70)],
         status: 7,
         text: "mptab: fault 5 BadSignature at 00000510\n",
     },
     Row {
         name: "base length 43",
         size: SMALL,
-        pieces: &[WORD, POINTER, AT, (0x514, b"\x2B")],
+        pieces: &[WORD, POINTER, AT, Piece::Bytes(0x514, 1, 0x2B)],
         status: 7,
         text: "mptab: fault 6 ShortLength at 00000514\n",
     },
     Row {
         name: "base length 0",
         size: SMALL,
-        pieces: &[WORD, POINTER, AT, (0x514, b"\x00")],
+        pieces: &[WORD, POINTER, AT, Piece::Bytes(0x514, 1, 0x00)],
         status: 7,
         text: "mptab: fault 6 ShortLength at 00000514\n",
     },
     Row {
         name: "base length 65 passes the image",
         size: SMALL,
-        pieces: &[WORD, POINTER, AT, (0x514, b"\x41")],
+        pieces: &[WORD, POINTER, AT, Piece::Bytes(0x514, 1, 0x41)],
         status: 7,
         text: "mptab: fault 7 LengthOutside at 00000514\n",
     },
     Row {
         name: "the sum of the base is 1",
         size: SMALL,
-        pieces: &[WORD, POINTER, AT, (0x517, b"\x9A")],
+        pieces: &[WORD, POINTER, AT, Piece::Bytes(0x517, 1, 0x9A)],
         status: 7,
         text: "mptab: fault 8 BadSum at 00000517\n",
     },
     Row {
         name: "count 0",
         size: SMALL,
-        pieces: &[WORD, POINTER, AT, (0x532, b"\x00"), (0x517, b"\x9A")],
+        pieces: &[
+            WORD,
+            POINTER,
+            AT,
+            Piece::Bytes(0x532, 1, 0x00),
+            Piece::Bytes(0x517, 1, 0x9A),
+        ],
         status: 7,
         text: "mptab: fault 9 BadCount at 00000532\n",
     },
     Row {
         name: "count 257: both bytes count",
         size: SMALL,
-        pieces: &[WORD, POINTER, AT, (0x533, b"\x01"), (0x517, b"\x98")],
+        pieces: &[
+            WORD,
+            POINTER,
+            AT,
+            Piece::Bytes(0x533, 1, 0x01),
+            Piece::Bytes(0x517, 1, 0x98),
+        ],
         status: 7,
         text: "mptab: fault 9 BadCount at 00000532\n",
     },
     Row {
         name: "entry type 5",
         size: SMALL,
-        pieces: &[WORD, POINTER, AT, (0x53C, b"\x05"), (0x517, b"\x94")],
+        pieces: &[
+            WORD,
+            POINTER,
+            AT,
+            Piece::Bytes(0x53C, 1, 0x05),
+            Piece::Bytes(0x517, 1, 0x94),
+        ],
         status: 7,
         text: "mptab: fault 10 UnknownEntry at 0000053C\n",
     },
     Row {
         name: "entry type 80h is no base entry",
         size: SMALL,
-        pieces: &[WORD, POINTER, AT, (0x53C, b"\x80"), (0x517, b"\x19")],
+        pieces: &[
+            WORD,
+            POINTER,
+            AT,
+            Piece::Bytes(0x53C, 1, 0x80),
+            Piece::Bytes(0x517, 1, 0x19),
+        ],
         status: 7,
         text: "mptab: fault 10 UnknownEntry at 0000053C\n",
     },
     Row {
         name: "base length 63 cuts the processor",
         size: SMALL,
-        pieces: &[WORD, POINTER, AT, (0x514, b"\x3F"), (0x517, b"\x9A")],
+        pieces: &[
+            WORD,
+            POINTER,
+            AT,
+            Piece::Bytes(0x514, 1, 0x3F),
+            Piece::Bytes(0x517, 1, 0x9A),
+        ],
         status: 7,
         text: "mptab: fault 11 CutEntry at 0000053C\n",
     },
     Row {
         name: "extended length 1 passes the image",
         size: SMALL,
-        pieces: &[WORD, POINTER, AT, (0x538, b"\x01"), (0x517, b"\x98")],
+        pieces: &[
+            WORD,
+            POINTER,
+            AT,
+            Piece::Bytes(0x538, 1, 0x01),
+            Piece::Bytes(0x517, 1, 0x98),
+        ],
         status: 7,
         text: "mptab: fault 12 ExtOutside at 00000538\n",
     },
@@ -171,9 +192,9 @@ const REASONS: &[Row] = &[
             WORD,
             POINTER,
             AT,
-            (0x538, b"\x02\x00\x00"),
-            (0x517, b"\x97"),
-            (0x550, b"\xC8\x02"),
+            Piece::Bytes(0x538, 3, 0x020000),
+            Piece::Bytes(0x517, 1, 0x97),
+            Piece::Bytes(0x550, 2, 0xC802),
         ],
         status: 7,
         text: "mptab: fault 13 BadExtSum at 0000053A\n",
@@ -181,7 +202,13 @@ const REASONS: &[Row] = &[
     Row {
         name: "the extended checksum is 1 and the extended part is empty",
         size: SMALL,
-        pieces: &[WORD, POINTER, AT, (0x53A, b"\x01"), (0x517, b"\x98")],
+        pieces: &[
+            WORD,
+            POINTER,
+            AT,
+            Piece::Bytes(0x53A, 1, 0x01),
+            Piece::Bytes(0x517, 1, 0x98),
+        ],
         status: 7,
         text: "mptab: fault 13 BadExtSum at 0000053A\n",
     },
@@ -192,9 +219,9 @@ const REASONS: &[Row] = &[
             WORD,
             POINTER,
             AT,
-            (0x538, b"\x02\x00\x7F"),
-            (0x517, b"\x18"),
-            (0x550, b"\x7F\x02"),
+            Piece::Bytes(0x538, 3, 0x02007F),
+            Piece::Bytes(0x517, 1, 0x18),
+            Piece::Bytes(0x550, 2, 0x7F02),
         ],
         status: 7,
         text: "mptab: fault 14 BadExtType at 00000550\n",
@@ -206,9 +233,9 @@ const REASONS: &[Row] = &[
             WORD,
             POINTER,
             AT,
-            (0x538, b"\x02\x00\x37"),
-            (0x517, b"\x60"),
-            (0x550, b"\xC8\x01"),
+            Piece::Bytes(0x538, 3, 0x020037),
+            Piece::Bytes(0x517, 1, 0x60),
+            Piece::Bytes(0x550, 2, 0xC801),
         ],
         status: 7,
         text: "mptab: fault 15 BadExtLength at 00000551\n",
@@ -220,9 +247,9 @@ const REASONS: &[Row] = &[
             WORD,
             POINTER,
             AT,
-            (0x538, b"\x01\x00\x38"),
-            (0x517, b"\x60"),
-            (0x550, b"\xC8"),
+            Piece::Bytes(0x538, 3, 0x010038),
+            Piece::Bytes(0x517, 1, 0x60),
+            Piece::Bytes(0x550, 1, 0xC8),
         ],
         status: 7,
         text: "mptab: fault 16 CutExtEntry at 00000550\n",
@@ -235,10 +262,7 @@ const PAIRS: &[Row] = &[
         size: SMALL,
         pieces: &[
             WORD,
-            (
-                0x500,
-                b"_MP_\x10\x05\x00\x00\x01\x01\x86\x08\x00\x00\x00\x00",
-            ),
+            Piece::Bytes(0x500, 16, 0x5F4D505F_10050000_01018608_00000000),
             AT,
         ],
         status: 7,
@@ -249,10 +273,7 @@ const PAIRS: &[Row] = &[
         size: SMALL,
         pieces: &[
             WORD,
-            (
-                0x500,
-                b"_MP_\x00\x00\x00\x00\x01\x01\xA3\x00\x00\x00\x00\x00",
-            ),
+            Piece::Bytes(0x500, 16, 0x5F4D505F_00000000_0101A300_00000000),
             AT,
         ],
         status: 7,
@@ -263,10 +284,7 @@ const PAIRS: &[Row] = &[
         size: SMALL,
         pieces: &[
             WORD,
-            (
-                0x500,
-                b"_MP_\x25\x05\x00\x00\x01\x01\x79\x00\x00\x00\x00\x00",
-            ),
+            Piece::Bytes(0x500, 16, 0x5F4D505F_25050000_01017900_00000000),
             AT,
         ],
         status: 7,
@@ -277,10 +295,7 @@ const PAIRS: &[Row] = &[
         size: SMALL,
         pieces: &[
             WORD,
-            (
-                0x500,
-                b"_MP_\x00\x00\x00\x00\x01\x04\x98\x08\x00\x00\x00\x00",
-            ),
+            Piece::Bytes(0x500, 16, 0x5F4D505F_00000000_01049808_00000000),
             AT,
         ],
         status: 7,
@@ -291,10 +306,7 @@ const PAIRS: &[Row] = &[
         size: SMALL,
         pieces: &[
             WORD,
-            (
-                0x500,
-                b"_MP_\x25\x05\x00\x00\x01\x04\x6E\x08\x00\x00\x00\x00",
-            ),
+            Piece::Bytes(0x500, 16, 0x5F4D505F_25050000_01046E08_00000000),
             AT,
         ],
         status: 7,
@@ -305,10 +317,7 @@ const PAIRS: &[Row] = &[
         size: SMALL,
         pieces: &[
             WORD,
-            (
-                0x500,
-                b"_MP_\x10\x05\x00\x00\x01\x04\x84\x07\x00\x00\x00\x00",
-            ),
+            Piece::Bytes(0x500, 16, 0x5F4D505F_10050000_01048407_00000000),
         ],
         status: 0,
         text: "mptable 1
@@ -321,11 +330,8 @@ end
         size: SMALL,
         pieces: &[
             WORD,
-            (
-                0x500,
-                b"_MP_\x50\x04\x00\x00\x01\x04\x4C\x00\x00\x00\x00\x00",
-            ),
-            (0x450, TABLE),
+            Piece::Bytes(0x500, 16, 0x5F4D505F_50040000_01044C00_00000000),
+            Piece::Table(0x450),
         ],
         status: 0,
         text: "mptable 1
@@ -340,10 +346,7 @@ end
         size: SMALL,
         pieces: &[
             WORD,
-            (
-                0x500,
-                b"_MP_\x50\x04\x00\x00\x01\x01\x4F\x00\x00\x00\x00\x00",
-            ),
+            Piece::Bytes(0x500, 16, 0x5F4D505F_50040000_01014F00_00000000),
         ],
         status: 7,
         text: "mptab: fault 1 BadRevision at 00000509\n",
@@ -353,10 +356,7 @@ end
         size: SMALL,
         pieces: &[
             WORD,
-            (
-                0x500,
-                b"_MP_\x50\x04\x00\x00\x01\x04\x4C\x00\x00\x00\x00\x00",
-            ),
+            Piece::Bytes(0x500, 16, 0x5F4D505F_50040000_01044C00_00000000),
         ],
         status: 7,
         text: "mptab: fault 5 BadSignature at 00000450\n",
@@ -364,42 +364,48 @@ end
     Row {
         name: "signature before length",
         size: SMALL,
-        pieces: &[WORD, POINTER, AT, (0x510, b"\x00"), (0x514, b"\x2B")],
+        pieces: &[
+            WORD,
+            POINTER,
+            AT,
+            Piece::Bytes(0x510, 1, 0x00),
+            Piece::Bytes(0x514, 1, 0x2B),
+        ],
         status: 7,
         text: "mptab: fault 5 BadSignature at 00000510\n",
     },
     Row {
         name: "length outside before revision",
         size: SMALL,
-        pieces: &[WORD, POINTER, AT, (0x514, b"\x41\x00\x01")],
+        pieces: &[WORD, POINTER, AT, Piece::Bytes(0x514, 3, 0x410001)],
         status: 7,
         text: "mptab: fault 7 LengthOutside at 00000514\n",
     },
     Row {
         name: "short length before revision",
         size: SMALL,
-        pieces: &[WORD, POINTER, AT, (0x514, b"\x2B\x00\x01")],
+        pieces: &[WORD, POINTER, AT, Piece::Bytes(0x514, 3, 0x2B0001)],
         status: 7,
         text: "mptab: fault 6 ShortLength at 00000514\n",
     },
     Row {
         name: "revision before sum",
         size: SMALL,
-        pieces: &[WORD, POINTER, AT, (0x516, b"\x01\x00")],
+        pieces: &[WORD, POINTER, AT, Piece::Bytes(0x516, 2, 0x0100)],
         status: 7,
         text: "mptab: fault 1 BadRevision at 00000516\n",
     },
     Row {
         name: "sum before count",
         size: SMALL,
-        pieces: &[WORD, POINTER, AT, (0x532, b"\x02")],
+        pieces: &[WORD, POINTER, AT, Piece::Bytes(0x532, 1, 0x02)],
         status: 7,
         text: "mptab: fault 8 BadSum at 00000517\n",
     },
     Row {
         name: "sum before an unknown entry",
         size: SMALL,
-        pieces: &[WORD, POINTER, AT, (0x53C, b"\x05")],
+        pieces: &[WORD, POINTER, AT, Piece::Bytes(0x53C, 1, 0x05)],
         status: 7,
         text: "mptab: fault 8 BadSum at 00000517\n",
     },
@@ -410,9 +416,9 @@ end
             WORD,
             POINTER,
             AT,
-            (0x532, b"\x02"),
-            (0x53C, b"\x05"),
-            (0x517, b"\x93"),
+            Piece::Bytes(0x532, 1, 0x02),
+            Piece::Bytes(0x53C, 1, 0x05),
+            Piece::Bytes(0x517, 1, 0x93),
         ],
         status: 7,
         text: "mptab: fault 10 UnknownEntry at 0000053C\n",
@@ -424,9 +430,9 @@ end
             WORD,
             POINTER,
             AT,
-            (0x532, b"\x02"),
-            (0x514, b"\x3F"),
-            (0x517, b"\x99"),
+            Piece::Bytes(0x532, 1, 0x02),
+            Piece::Bytes(0x514, 1, 0x3F),
+            Piece::Bytes(0x517, 1, 0x99),
         ],
         status: 7,
         text: "mptab: fault 11 CutEntry at 0000053C\n",
@@ -438,9 +444,9 @@ end
             WORD,
             POINTER,
             AT,
-            (0x532, b"\x02"),
-            (0x538, b"\x01"),
-            (0x517, b"\x97"),
+            Piece::Bytes(0x532, 1, 0x02),
+            Piece::Bytes(0x538, 1, 0x01),
+            Piece::Bytes(0x517, 1, 0x97),
         ],
         status: 7,
         text: "mptab: fault 9 BadCount at 00000532\n",
@@ -452,10 +458,10 @@ end
             WORD,
             POINTER,
             AT,
-            (0x532, b"\x02"),
-            (0x538, b"\x02\x00\x00"),
-            (0x517, b"\x96"),
-            (0x550, b"\xC8\x02"),
+            Piece::Bytes(0x532, 1, 0x02),
+            Piece::Bytes(0x538, 3, 0x020000),
+            Piece::Bytes(0x517, 1, 0x96),
+            Piece::Bytes(0x550, 2, 0xC802),
         ],
         status: 7,
         text: "mptab: fault 9 BadCount at 00000532\n",
@@ -467,9 +473,9 @@ end
             WORD,
             POINTER,
             AT,
-            (0x538, b"\x01"),
-            (0x53C, b"\x05"),
-            (0x517, b"\x93"),
+            Piece::Bytes(0x538, 1, 0x01),
+            Piece::Bytes(0x53C, 1, 0x05),
+            Piece::Bytes(0x517, 1, 0x93),
         ],
         status: 7,
         text: "mptab: fault 12 ExtOutside at 00000538\n",
@@ -481,9 +487,9 @@ end
             WORD,
             POINTER,
             AT,
-            (0x514, b"\x3F"),
-            (0x538, b"\x02"),
-            (0x517, b"\x98"),
+            Piece::Bytes(0x514, 1, 0x3F),
+            Piece::Bytes(0x538, 1, 0x02),
+            Piece::Bytes(0x517, 1, 0x98),
         ],
         status: 7,
         text: "mptab: fault 12 ExtOutside at 00000538\n",
@@ -495,10 +501,10 @@ end
             WORD,
             POINTER,
             AT,
-            (0x538, b"\x02\x00\x00"),
-            (0x53C, b"\x05"),
-            (0x517, b"\x92"),
-            (0x550, b"\xC8\x02"),
+            Piece::Bytes(0x538, 3, 0x020000),
+            Piece::Bytes(0x53C, 1, 0x05),
+            Piece::Bytes(0x517, 1, 0x92),
+            Piece::Bytes(0x550, 2, 0xC802),
         ],
         status: 7,
         text: "mptab: fault 13 BadExtSum at 0000053A\n",
@@ -510,9 +516,9 @@ end
             WORD,
             POINTER,
             AT,
-            (0x538, b"\x02\x00\x00"),
-            (0x517, b"\x97"),
-            (0x550, b"\x7F\x02"),
+            Piece::Bytes(0x538, 3, 0x020000),
+            Piece::Bytes(0x517, 1, 0x97),
+            Piece::Bytes(0x550, 2, 0x7F02),
         ],
         status: 7,
         text: "mptab: fault 13 BadExtSum at 0000053A\n",
@@ -524,10 +530,10 @@ end
             WORD,
             POINTER,
             AT,
-            (0x538, b"\x02\x00\x7F"),
-            (0x53C, b"\x05"),
-            (0x517, b"\x13"),
-            (0x550, b"\x7F\x02"),
+            Piece::Bytes(0x538, 3, 0x02007F),
+            Piece::Bytes(0x53C, 1, 0x05),
+            Piece::Bytes(0x517, 1, 0x13),
+            Piece::Bytes(0x550, 2, 0x7F02),
         ],
         status: 7,
         text: "mptab: fault 10 UnknownEntry at 0000053C\n",
@@ -539,10 +545,10 @@ end
             WORD,
             POINTER,
             AT,
-            (0x514, b"\x3F"),
-            (0x538, b"\x02\x00\x7F"),
-            (0x517, b"\x19"),
-            (0x54F, b"\x7F\x02"),
+            Piece::Bytes(0x514, 1, 0x3F),
+            Piece::Bytes(0x538, 3, 0x02007F),
+            Piece::Bytes(0x517, 1, 0x19),
+            Piece::Bytes(0x54F, 2, 0x7F02),
         ],
         status: 7,
         text: "mptab: fault 11 CutEntry at 0000053C\n",
@@ -554,9 +560,9 @@ end
             WORD,
             POINTER,
             AT,
-            (0x514, b"\x42"),
-            (0x550, b"\x05\x01"),
-            (0x517, b"\x91"),
+            Piece::Bytes(0x514, 1, 0x42),
+            Piece::Bytes(0x550, 2, 0x0501),
+            Piece::Bytes(0x517, 1, 0x91),
         ],
         status: 7,
         text: "mptab: fault 10 UnknownEntry at 00000550\n",
@@ -568,9 +574,9 @@ end
             WORD,
             POINTER,
             AT,
-            (0x538, b"\x03\x00\xB8"),
-            (0x517, b"\xDE"),
-            (0x550, b"\xC8\x01\x7F"),
+            Piece::Bytes(0x538, 3, 0x0300B8),
+            Piece::Bytes(0x517, 1, 0xDE),
+            Piece::Bytes(0x550, 3, 0xC8017F),
         ],
         status: 7,
         text: "mptab: fault 15 BadExtLength at 00000551\n",
@@ -583,10 +589,7 @@ const DEFAULTS: &[Row] = &[
         size: SMALL,
         pieces: &[
             WORD,
-            (
-                0x500,
-                b"_MP_\x00\x00\x00\x00\x01\x04\xA0\x00\x00\x00\x00\x00",
-            ),
+            Piece::Bytes(0x500, 16, 0x5F4D505F_00000000_0104A000_00000000),
         ],
         status: 7,
         text: "mptab: fault 3 NoTable at 00000504\n",
@@ -596,10 +599,7 @@ const DEFAULTS: &[Row] = &[
         size: SMALL,
         pieces: &[
             WORD,
-            (
-                0x500,
-                b"_MP_\x00\x00\x00\x00\x01\x04\x9F\x01\x00\x00\x00\x00",
-            ),
+            Piece::Bytes(0x500, 16, 0x5F4D505F_00000000_01049F01_00000000),
         ],
         status: 0,
         text: "mptable 1
@@ -612,10 +612,7 @@ end
         size: SMALL,
         pieces: &[
             WORD,
-            (
-                0x500,
-                b"_MP_\x00\x00\x00\x00\x01\x04\x9E\x02\x00\x00\x00\x00",
-            ),
+            Piece::Bytes(0x500, 16, 0x5F4D505F_00000000_01049E02_00000000),
         ],
         status: 0,
         text: "mptable 1
@@ -628,10 +625,7 @@ end
         size: SMALL,
         pieces: &[
             WORD,
-            (
-                0x500,
-                b"_MP_\x00\x00\x00\x00\x01\x04\x9D\x03\x00\x00\x00\x00",
-            ),
+            Piece::Bytes(0x500, 16, 0x5F4D505F_00000000_01049D03_00000000),
         ],
         status: 0,
         text: "mptable 1
@@ -644,10 +638,7 @@ end
         size: SMALL,
         pieces: &[
             WORD,
-            (
-                0x500,
-                b"_MP_\x00\x00\x00\x00\x01\x04\x9C\x04\x00\x00\x00\x00",
-            ),
+            Piece::Bytes(0x500, 16, 0x5F4D505F_00000000_01049C04_00000000),
         ],
         status: 0,
         text: "mptable 1
@@ -660,10 +651,7 @@ end
         size: SMALL,
         pieces: &[
             WORD,
-            (
-                0x500,
-                b"_MP_\x00\x00\x00\x00\x01\x04\x9B\x05\x00\x00\x00\x00",
-            ),
+            Piece::Bytes(0x500, 16, 0x5F4D505F_00000000_01049B05_00000000),
         ],
         status: 0,
         text: "mptable 1
@@ -676,10 +664,7 @@ end
         size: SMALL,
         pieces: &[
             WORD,
-            (
-                0x500,
-                b"_MP_\x00\x00\x00\x00\x01\x04\x9A\x06\x00\x00\x00\x00",
-            ),
+            Piece::Bytes(0x500, 16, 0x5F4D505F_00000000_01049A06_00000000),
         ],
         status: 0,
         text: "mptable 1
@@ -692,10 +677,7 @@ end
         size: SMALL,
         pieces: &[
             WORD,
-            (
-                0x500,
-                b"_MP_\x00\x00\x00\x00\x01\x04\x99\x07\x00\x00\x00\x00",
-            ),
+            Piece::Bytes(0x500, 16, 0x5F4D505F_00000000_01049907_00000000),
         ],
         status: 0,
         text: "mptable 1
@@ -708,10 +690,7 @@ end
         size: SMALL,
         pieces: &[
             WORD,
-            (
-                0x500,
-                b"_MP_\x00\x00\x00\x00\x01\x04\x98\x08\x00\x00\x00\x00",
-            ),
+            Piece::Bytes(0x500, 16, 0x5F4D505F_00000000_01049808_00000000),
         ],
         status: 7,
         text: "mptab: fault 2 BadDefault at 0000050B\n",
@@ -721,10 +700,7 @@ end
         size: SMALL,
         pieces: &[
             WORD,
-            (
-                0x500,
-                b"_MP_\x00\x00\x00\x00\x01\x04\x20\x80\x00\x00\x00\x00",
-            ),
+            Piece::Bytes(0x500, 16, 0x5F4D505F_00000000_01042080_00000000),
         ],
         status: 7,
         text: "mptab: fault 2 BadDefault at 0000050B\n",
@@ -734,10 +710,7 @@ end
         size: SMALL,
         pieces: &[
             WORD,
-            (
-                0x500,
-                b"_MP_\x00\x00\x00\x00\x01\x04\xA1\xFF\x00\x00\x00\x00",
-            ),
+            Piece::Bytes(0x500, 16, 0x5F4D505F_00000000_0104A1FF_00000000),
         ],
         status: 7,
         text: "mptab: fault 2 BadDefault at 0000050B\n",
@@ -746,18 +719,21 @@ end
 
 #[test]
 fn each_reason(rt: HostRuntime) -> Result<(), Fail> {
-    assert_eq!(rt; first_wrong(rt.alloc(), REASONS)?, None);
+    let wrong = first_wrong(rt.alloc(), REASONS)?;
+    same(&rt, "the first wrong row", wrong, None);
     Ok(())
 }
 
 #[test]
 fn the_first_of_two_faults(rt: HostRuntime) -> Result<(), Fail> {
-    assert_eq!(rt; first_wrong(rt.alloc(), PAIRS)?, None);
+    let wrong = first_wrong(rt.alloc(), PAIRS)?;
+    same(&rt, "the first wrong row", wrong, None);
     Ok(())
 }
 
 #[test]
 fn default_numbers(rt: HostRuntime) -> Result<(), Fail> {
-    assert_eq!(rt; first_wrong(rt.alloc(), DEFAULTS)?, None);
+    let wrong = first_wrong(rt.alloc(), DEFAULTS)?;
+    same(&rt, "the first wrong row", wrong, None);
     Ok(())
 }

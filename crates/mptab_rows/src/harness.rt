@@ -3,6 +3,8 @@
 use mpt_base::{MemShelf, MemSink};
 use mptab_calls::run_still;
 use std::alloc::Global;
+use std::fmt::Debug;
+use std::process::Abort;
 use std::test::Fail;
 
 /// The name under which an image lies on the shelf.
@@ -11,26 +13,29 @@ pub(crate) const NAME: &str = "board.img";
 /// The room of a sink: more than any text of these rows.
 pub(crate) const ROOM: usize = 65536;
 
-/// Bytes and their place in an image. What passes the image's end is left out.
-pub(crate) type Piece = (usize, &'static [u8]);
+/// What lies at a place in an image. What passes the image's end is left out.
+pub(crate) enum Piece {
+    /// The table of the board with one processor.
+    Table(usize),
+    /// So many bytes, 16 at most, as one number: the first byte is its highest.
+    Bytes(usize, usize, u128),
+}
 
 /// The pointer of the board with one processor, at F0000h.
-pub(crate) const POINTER: Piece = (
-    0xF0000,
-    b"_MP_\x10\x00\x0F\x00\x01\x04\x81\x00\x00\x00\x00\x00",
-);
+pub(crate) const POINTER: Piece = Piece::Bytes(0xF0000, 16, 0x5F4D505F_10000F00_01048100_00000000);
 
 /// The word that names 500h as the start of the EBDA.
-pub(crate) const WORD: Piece = (0x40E, b"\x50\x00");
+pub(crate) const WORD: Piece = Piece::Bytes(0x40E, 2, 0x5000);
 
 /// The pointer of the same board at 500h, to a table at 510h.
-pub(crate) const SMALL_POINTER: Piece = (
+pub(crate) const SMALL_POINTER: Piece = Piece::Bytes(
     0x500,
-    b"_MP_\x10\x05\x00\x00\x01\x04\x8B\x00\x00\x00\x00\x00",
+    16,
+    0x5F4D505F_10050000_01048B00_00000000,
 );
 
 /// The table of the board with one processor: 64 bytes, whose sum is 0.
-pub(crate) const TABLE: &[u8] = b"PCMP\x40\x00\x04\x99MPTAB   BOARD       \
+const TABLE: &[u8] = b"PCMP\x40\x00\x04\x99MPTAB   BOARD       \
 \x00\x00\x00\x00\x00\x00\x01\x00\x00\x00\xE0\xFE\x00\x00\x00\x00\
 \x00\x00\x10\x03\x20\x05\x00\x00\xBF\x01\x00\x00\x00\x00\x00\x00\x00\x00\x00\x00";
 
@@ -59,13 +64,34 @@ impl Answer {
     }
 }
 
+/// Asserts that two values are the same, at one place for every row.
+pub(crate) fn same<T: PartialEq + Debug + Drop>(rt: &impl Abort, name: &str, got: T, want: T) {
+    assert_eq!(rt; got, want, "{name}");
+}
+
 /// The image of these pieces.
 pub(crate) fn image_with(alloc: Global, size: usize, pieces: &[Piece]) -> Result<Vec<u8>, Fail> {
     let mut image = vec![in alloc; 0; size]?;
-    for (at, bytes) in pieces {
-        put(&mut image, *at, bytes);
+    for piece in pieces {
+        put_piece(&mut image, piece);
     }
     Ok(image)
+}
+
+/// Writes a piece.
+fn put_piece(image: &mut [u8], piece: &Piece) {
+    match piece {
+        Piece::Table(at) => put(image, *at, TABLE),
+        Piece::Bytes(at, count, number) => put_number(image, *at, *count, *number),
+    }
+}
+
+/// Writes the lowest bytes of a number at a place, so many of them, the highest first.
+fn put_number(image: &mut [u8], at: usize, count: usize, number: u128) {
+    let bytes = number.to_be_bytes();
+    if let Some(last) = bytes.get(bytes.len().saturating_sub(count)..) {
+        put(image, at, last);
+    }
 }
 
 /// Writes bytes at a place. What passes the end is left out.

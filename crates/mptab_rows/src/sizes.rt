@@ -1,20 +1,17 @@
 //! Sizes that cut the words of the search, its areas, the pointer, the header, the base and the extended
 //! part.
 
-use crate::harness::{Piece, Row, SMALL_POINTER as POINTER, TABLE, WORD, first_wrong};
+use crate::harness::{Piece, Row, SMALL_POINTER as POINTER, WORD, first_wrong, same};
 use std::test::Fail;
 
 /// The table, directly after the pointer.
-const AT: Piece = (0x510, TABLE);
+const AT: Piece = Piece::Table(0x510);
 
 const SIZES: &[Row] = &[
     Row {
         name: "the EBDA word is whole: it lies in the pointer itself",
         size: 1040,
-        pieces: &[(
-            0x400,
-            b"_MP_\x00\x00\x00\x00\x01\x04\x5B\x05\x00\x00\x40\x00",
-        )],
+        pieces: &[Piece::Bytes(0x400, 16, 0x5F4D505F_00000000_01045B05_00004000)],
         status: 0,
         text: "mptable 1
 pointer at 00000400 table 00000000 revision 04 features 0500004000
@@ -24,10 +21,7 @@ end
     Row {
         name: "the EBDA word is cut, and counts as 0",
         size: 1039,
-        pieces: &[(
-            0x400,
-            b"_MP_\x00\x00\x00\x00\x01\x04\x5B\x05\x00\x00\x40\x00",
-        )],
+        pieces: &[Piece::Bytes(0x400, 16, 0x5F4D505F_00000000_01045B05_00004000)],
         status: 6,
         text: "mptab: no floating pointer\n",
     },
@@ -35,11 +29,8 @@ end
         name: "the base word is whole: 2 KiB",
         size: 1045,
         pieces: &[
-            (
-                0x400,
-                b"_MP_\x00\x00\x00\x00\x01\x04\x9B\x05\x00\x00\x00\x00",
-            ),
-            (0x413, b"\x02\x00"),
+            Piece::Bytes(0x400, 16, 0x5F4D505F_00000000_01049B05_00000000),
+            Piece::Bytes(0x413, 2, 0x0200),
         ],
         status: 0,
         text: "mptable 1
@@ -51,11 +42,8 @@ end
         name: "the base word is cut, and counts as 0",
         size: 1044,
         pieces: &[
-            (
-                0x400,
-                b"_MP_\x00\x00\x00\x00\x01\x04\x9B\x05\x00\x00\x00\x00",
-            ),
-            (0x413, b"\x02\x00"),
+            Piece::Bytes(0x400, 16, 0x5F4D505F_00000000_01049B05_00000000),
+            Piece::Bytes(0x413, 2, 0x0200),
         ],
         status: 6,
         text: "mptab: no floating pointer\n",
@@ -65,11 +53,8 @@ end
         size: 0x900,
         pieces: &[
             WORD,
-            (
-                0x420,
-                b"_MP_\x00\x00\x00\x00\x01\x04\x9B\x05\x00\x00\x00\x00",
-            ),
-            (0x413, b"\x02\x00"),
+            Piece::Bytes(0x420, 16, 0x5F4D505F_00000000_01049B05_00000000),
+            Piece::Bytes(0x413, 2, 0x0200),
         ],
         status: 6,
         text: "mptab: no floating pointer\n",
@@ -78,8 +63,8 @@ end
         name: "1 KiB: the first kilobyte",
         size: 1045,
         pieces: &[
-            (0x0, b"_MP_\x00\x00\x00\x00\x01\x04\x9B\x05\x00\x00\x00\x00"),
-            (0x413, b"\x01\x00"),
+            Piece::Bytes(0x0, 16, 0x5F4D505F_00000000_01049B05_00000000),
+            Piece::Bytes(0x413, 2, 0x0100),
         ],
         status: 0,
         text: "mptable 1
@@ -92,10 +77,7 @@ end
         size: 0x910,
         pieces: &[
             WORD,
-            (
-                0x8F0,
-                b"_MP_\x00\x00\x00\x00\x01\x04\x9B\x05\x00\x00\x00\x00",
-            ),
+            Piece::Bytes(0x8F0, 16, 0x5F4D505F_00000000_01049B05_00000000),
         ],
         status: 0,
         text: "mptable 1
@@ -108,10 +90,7 @@ end
         size: 0x910,
         pieces: &[
             WORD,
-            (
-                0x900,
-                b"_MP_\x00\x00\x00\x00\x01\x04\x9B\x05\x00\x00\x00\x00",
-            ),
+            Piece::Bytes(0x900, 16, 0x5F4D505F_00000000_01049B05_00000000),
         ],
         status: 6,
         text: "mptab: no floating pointer\n",
@@ -121,10 +100,7 @@ end
         size: 0x910,
         pieces: &[
             WORD,
-            (
-                0x4F0,
-                b"_MP_\x00\x00\x00\x00\x01\x04\x9B\x05\x00\x00\x00\x00",
-            ),
+            Piece::Bytes(0x4F0, 16, 0x5F4D505F_00000000_01049B05_00000000),
         ],
         status: 6,
         text: "mptab: no floating pointer\n",
@@ -134,10 +110,7 @@ end
         size: 0x910,
         pieces: &[
             WORD,
-            (
-                0x508,
-                b"_MP_\x00\x00\x00\x00\x01\x04\x9B\x05\x00\x00\x00\x00",
-            ),
+            Piece::Bytes(0x508, 16, 0x5F4D505F_00000000_01049B05_00000000),
         ],
         status: 6,
         text: "mptab: no floating pointer\n",
@@ -147,14 +120,8 @@ end
         size: 0x910,
         pieces: &[
             WORD,
-            (
-                0x510,
-                b"_MP_\x00\x00\x00\x00\x01\x04\x9B\x05\x00\x00\x00\x00",
-            ),
-            (
-                0x520,
-                b"_MP_\x00\x00\x00\x00\x01\x04\x9A\x06\x00\x00\x00\x00",
-            ),
+            Piece::Bytes(0x510, 16, 0x5F4D505F_00000000_01049B05_00000000),
+            Piece::Bytes(0x520, 16, 0x5F4D505F_00000000_01049A06_00000000),
         ],
         status: 0,
         text: "mptable 1
@@ -165,10 +132,7 @@ end
     Row {
         name: "the last area from its first place",
         size: 0xF0010,
-        pieces: &[(
-            0xF0000,
-            b"_MP_\x00\x00\x00\x00\x01\x04\x9B\x05\x00\x00\x00\x00",
-        )],
+        pieces: &[Piece::Bytes(0xF0000, 16, 0x5F4D505F_00000000_01049B05_00000000)],
         status: 0,
         text: "mptable 1
 pointer at 000F0000 table 00000000 revision 04 features 0500000000
@@ -178,20 +142,14 @@ end
     Row {
         name: "a place before the last area",
         size: 0x100000,
-        pieces: &[(
-            0xEFFF0,
-            b"_MP_\x00\x00\x00\x00\x01\x04\x9B\x05\x00\x00\x00\x00",
-        )],
+        pieces: &[Piece::Bytes(0xEFFF0, 16, 0x5F4D505F_00000000_01049B05_00000000)],
         status: 6,
         text: "mptab: no floating pointer\n",
     },
     Row {
         name: "a place behind the last area",
         size: 0x100010,
-        pieces: &[(
-            0x100000,
-            b"_MP_\x00\x00\x00\x00\x01\x04\x9B\x05\x00\x00\x00\x00",
-        )],
+        pieces: &[Piece::Bytes(0x100000, 16, 0x5F4D505F_00000000_01049B05_00000000)],
         status: 6,
         text: "mptab: no floating pointer\n",
     },
@@ -200,10 +158,7 @@ end
         size: 0x50F,
         pieces: &[
             WORD,
-            (
-                0x500,
-                b"_MP_\x00\x00\x00\x00\x01\x04\x9B\x05\x00\x00\x00\x00",
-            ),
+            Piece::Bytes(0x500, 16, 0x5F4D505F_00000000_01049B05_00000000),
         ],
         status: 6,
         text: "mptab: no floating pointer\n",
@@ -213,10 +168,7 @@ end
         size: 0x510,
         pieces: &[
             WORD,
-            (
-                0x500,
-                b"_MP_\x00\x00\x00\x00\x01\x04\x9B\x05\x00\x00\x00\x00",
-            ),
+            Piece::Bytes(0x500, 16, 0x5F4D505F_00000000_01049B05_00000000),
         ],
         status: 0,
         text: "mptable 1
@@ -229,10 +181,7 @@ end
         size: 0x510,
         pieces: &[
             WORD,
-            (
-                0x500,
-                b"\x5F\x4D\x50\x5F\x00\x00\x00\x00\x02\x04\x9A\x05\x00\x00\x00\x00",
-            ),
+            Piece::Bytes(0x500, 16, 0x5F4D505F_00000000_02049A05_00000000),
         ],
         status: 6,
         text: "mptab: no floating pointer\n",
@@ -242,10 +191,7 @@ end
         size: 0x510,
         pieces: &[
             WORD,
-            (
-                0x500,
-                b"\x5F\x4D\x50\x20\x00\x00\x00\x00\x01\x04\xDA\x05\x00\x00\x00\x00",
-            ),
+            Piece::Bytes(0x500, 16, 0x5F4D5020_00000000_0104DA05_00000000),
         ],
         status: 6,
         text: "mptab: no floating pointer\n",
@@ -297,9 +243,9 @@ end
             WORD,
             POINTER,
             AT,
-            (0x538, b"\x02\x00\x36"),
-            (0x517, b"\x61"),
-            (0x550, b"\xC8\x02"),
+            Piece::Bytes(0x538, 3, 0x020036),
+            Piece::Bytes(0x517, 1, 0x61),
+            Piece::Bytes(0x550, 2, 0xC802),
         ],
         status: 7,
         text: "mptab: fault 12 ExtOutside at 00000538\n",
@@ -311,9 +257,9 @@ end
             WORD,
             POINTER,
             AT,
-            (0x538, b"\x02\x00\x36"),
-            (0x517, b"\x61"),
-            (0x550, b"\xC8\x02"),
+            Piece::Bytes(0x538, 3, 0x020036),
+            Piece::Bytes(0x517, 1, 0x61),
+            Piece::Bytes(0x550, 2, 0xC802),
         ],
         status: 7,
         text: "mptab: fault 12 ExtOutside at 00000538\n",
@@ -325,9 +271,9 @@ end
             WORD,
             POINTER,
             AT,
-            (0x538, b"\x02\x00\x36"),
-            (0x517, b"\x61"),
-            (0x550, b"\xC8\x02"),
+            Piece::Bytes(0x538, 3, 0x020036),
+            Piece::Bytes(0x517, 1, 0x61),
+            Piece::Bytes(0x550, 2, 0xC802),
         ],
         status: 0,
         text: "mptable 1
@@ -342,11 +288,8 @@ end
         name: "a table above 1 MiB",
         size: 0x100040,
         pieces: &[
-            (
-                0xF0000,
-                b"_MP_\x00\x00\x10\x00\x01\x04\x90\x00\x00\x00\x00\x00",
-            ),
-            (0x100000, TABLE),
+            Piece::Bytes(0xF0000, 16, 0x5F4D505F_00001000_01049000_00000000),
+            Piece::Table(0x100000),
         ],
         status: 0,
         text: "mptable 1
@@ -360,6 +303,7 @@ end
 
 #[test]
 fn sizes_that_cut(rt: HostRuntime) -> Result<(), Fail> {
-    assert_eq!(rt; first_wrong(rt.alloc(), SIZES)?, None);
+    let wrong = first_wrong(rt.alloc(), SIZES)?;
+    same(&rt, "the first wrong row", wrong, None);
     Ok(())
 }

@@ -2,7 +2,7 @@
 //! least and the greatest length.
 
 use crate::board::{HEAD, board_with};
-use crate::harness::{Answer, shown};
+use crate::harness::{Answer, same, shown};
 use std::alloc::Global;
 use std::test::Fail;
 
@@ -12,107 +12,161 @@ fn answer_with(alloc: Global, base: &[u8], count: u8, ext: &[u8]) -> Result<Answ
     shown(alloc, image.as_slice())
 }
 
-/// An entry of each base type, with its line.
-const BASE: &[(&[u8], &str)] = &[
-    (
-        b"\x04\x03\x0D\x1F\x02\x4C\xFF\x17",
-        "localint kind 03 flags 1F0D bus 02 irq 4C dest FF pin 17\n",
-    ),
-    (b"\x01\x00PCI   ", "bus id 00 name \"PCI   \"\n"),
-    (
-        b"\x01\xAB\"\\\x7F\x00 ~",
-        "bus id AB name \"\\x22\\x5C\\x7F\\x00 ~\"\n",
-    ),
-    (
-        b"\x02\x08\x11\x01\x00\x10\xC0\xFE",
-        "ioapic id 08 version 11 flags 01 address FEC01000\n",
-    ),
-    (
-        b"\x03\x00\x05\x80\x01\x0A\x08\x10",
-        "ioint kind 00 flags 8005 bus 01 irq 0A dest 08 pin 10\n",
-    ),
-    (
-        b"\x00\x1E\x14\x82\xEF\xBE\xAD\xDE\x78\x56\x34\x12\x01\x02\x03\x04\xA5\x06\x07\xF8",
-        "processor id 1E version 14 flags 82 signature DEADBEEF features 12345678 reserved 01020304A50607F8\n",
-    ),
-    (
-        b"\x03\xFE\xFF\xFF\xFD\xFC\xFB\xFA",
-        "ioint kind FE flags FFFF bus FD irq FC dest FB pin FA\n",
-    ),
+/// An entry, with its line.
+struct Entry {
+    bytes: &'static [u8],
+    line: &'static str,
+}
+
+/// An entry of each base type.
+const BASE: &[Entry] = &[
+    Entry {
+        bytes: b"\x04\x03\x0D\x1F\x02\x4C\xFF\x17",
+        line: "localint kind 03 flags 1F0D bus 02 irq 4C dest FF pin 17\n",
+    },
+    Entry {
+        bytes: b"\x01\x00PCI   ",
+        line: "bus id 00 name \"PCI   \"\n",
+    },
+    Entry {
+        bytes: b"\x01\xAB\"\\\x7F\x00 ~",
+        line: "bus id AB name \"\\x22\\x5C\\x7F\\x00 ~\"\n",
+    },
+    Entry {
+        bytes: b"\x02\x08\x11\x01\x00\x10\xC0\xFE",
+        line: "ioapic id 08 version 11 flags 01 address FEC01000\n",
+    },
+    Entry {
+        bytes: b"\x03\x00\x05\x80\x01\x0A\x08\x10",
+        line: "ioint kind 00 flags 8005 bus 01 irq 0A dest 08 pin 10\n",
+    },
+    Entry {
+        bytes: b"\x00\x1E\x14\x82\xEF\xBE\xAD\xDE\x78\x56\x34\x12\x01\x02\x03\x04\xA5\x06\x07\xF8",
+        line: "processor id 1E version 14 flags 82 signature DEADBEEF features 12345678 reserved 01020304A50607F8\n",
+    },
+    Entry {
+        bytes: b"\x03\xFE\xFF\xFF\xFD\xFC\xFB\xFA",
+        line: "ioint kind FE flags FFFF bus FD irq FC dest FB pin FA\n",
+    },
 ];
 
-/// An entry of each extended form, with its line.
-const EXT: &[(&[u8], &str)] = &[
-    (b"\x83\x02", "opaque kind 83 rest -\n"),
-    (
-        b"\x80\x14\x01\x02\x10\x32\x54\x76\x98\xBA\xDC\xFE\x00\x10\x00\x00\x00\x00\x00\x80",
-        "space bus 01 kind 02 base FEDCBA9876543210 length 8000000000001000\n",
-    ),
-    (
-        b"\x81\x08\x01\x03\x02\x00\xC0\x09",
-        "hierarchy bus 01 info 03 parent 02 reserved 00C009\n",
-    ),
-    (
-        b"\x82\x08\x00\x81\x01\x00\x00\x80",
-        "modifier bus 00 flags 81 ranges 80000001\n",
-    ),
-    (b"\xFF\x05\x0F\xA0\x22", "opaque kind FF rest 0FA022\n"),
+/// An entry of each extended form.
+const EXT: &[Entry] = &[
+    Entry {
+        bytes: b"\x83\x02",
+        line: "opaque kind 83 rest -\n",
+    },
+    Entry {
+        bytes: b"\x80\x14\x01\x02\x10\x32\x54\x76\x98\xBA\xDC\xFE\x00\x10\x00\x00\x00\x00\x00\x80",
+        line: "space bus 01 kind 02 base FEDCBA9876543210 length 8000000000001000\n",
+    },
+    Entry {
+        bytes: b"\x81\x08\x01\x03\x02\x00\xC0\x09",
+        line: "hierarchy bus 01 info 03 parent 02 reserved 00C009\n",
+    },
+    Entry {
+        bytes: b"\x82\x08\x00\x81\x01\x00\x00\x80",
+        line: "modifier bus 00 flags 81 ranges 80000001\n",
+    },
+    Entry {
+        bytes: b"\xFF\x05\x0F\xA0\x22",
+        line: "opaque kind FF rest 0FA022\n",
+    },
 ];
 
-/// The bytes of these entries, end to end, with their lines.
-fn joined(alloc: Global, entries: &[(&[u8], &str)]) -> Result<(Vec<u8>, Vec<u8>), Fail> {
+/// The bytes of these entries, end to end.
+fn joined(alloc: Global, entries: &[Entry]) -> Result<Vec<u8>, Fail> {
     let mut bytes = Vec::new(alloc);
-    let mut text = Vec::new(alloc);
-    for (entry, line) in entries {
-        bytes.extend_from_slice(entry)?;
-        text.extend_from_slice(line.as_bytes())?;
+    for entry in entries {
+        bytes.extend_from_slice(entry.bytes)?;
     }
-    Ok((bytes, text))
+    Ok(bytes)
+}
+
+/// Writes the lines of these entries.
+fn push_lines(text: &mut Vec<u8>, entries: &[Entry]) -> Result<(), Fail> {
+    for entry in entries {
+        text.extend_from_slice(entry.line.as_bytes())?;
+    }
+    Ok(())
+}
+
+/// The answer to a board of both.
+fn answer_of_all(alloc: Global) -> Result<Answer, Fail> {
+    let base = joined(alloc, BASE)?;
+    let ext = joined(alloc, EXT)?;
+    answer_with(alloc, base.as_slice(), 7, ext.as_slice())
+}
+
+/// The listing of that board.
+fn listing_of_all(alloc: Global) -> Result<Vec<u8>, Fail> {
+    let mut text = Vec::from_slice(alloc, HEAD.as_bytes())?;
+    push_lines(&mut text, BASE)?;
+    push_lines(&mut text, EXT)?;
+    text.extend_from_slice(b"end\n")?;
+    Ok(text)
 }
 
 #[test]
 fn every_form(rt: HostRuntime) -> Result<(), Fail> {
-    let (base, base_lines) = joined(rt.alloc(), BASE)?;
-    let (ext, ext_lines) = joined(rt.alloc(), EXT)?;
-    let mut text = Vec::from_slice(rt.alloc(), HEAD.as_bytes())?;
-    text.extend_from_slice(base_lines.as_slice())?;
-    text.extend_from_slice(ext_lines.as_slice())?;
-    text.extend_from_slice(b"end\n")?;
-    let answer = answer_with(rt.alloc(), base.as_slice(), 7, ext.as_slice())?;
-    assert_eq!(rt; answer.status, 0);
-    assert_eq!(rt; answer.text.as_slice(), text.as_slice());
+    let answer = answer_of_all(rt.alloc())?;
+    let text = listing_of_all(rt.alloc())?;
+    same(&rt, "the status", answer.status, 0);
+    same(&rt, "the listing", answer.text.as_slice(), text.as_slice());
     Ok(())
 }
 
-/// The first entry of which some part is another answer than a cut entry, or which isn't accepted whole.
-fn first_uncut_base(alloc: Global) -> Result<Option<&'static str>, Fail> {
-    for (entry, line) in BASE {
-        for kept in 1..entry.len() {
-            let (part, _) = entry.split_at(kept);
-            let answer = answer_with(alloc, part, 1, &[])?;
-            if !answer.is(7, b"mptab: fault 11 CutEntry at 0000053C\n") {
-                return Ok(Some(line));
-            }
+/// Whether this part of a base entry is a cut entry.
+fn is_cut_base(alloc: Global, part: &[u8]) -> Result<bool, Fail> {
+    let answer = answer_with(alloc, part, 1, &[])?;
+    Ok(answer.is(7, b"mptab: fault 11 CutEntry at 0000053C\n"))
+}
+
+/// Whether every part of a base entry is a cut entry, and the whole is accepted.
+fn is_each_cut_base(alloc: Global, entry: &[u8]) -> Result<bool, Fail> {
+    for kept in 1..entry.len() {
+        let (part, _) = entry.split_at(kept);
+        if !is_cut_base(alloc, part)? {
+            return Ok(false);
         }
-        if answer_with(alloc, entry, 1, &[])?.status != 0 {
-            return Ok(Some(line));
+    }
+    let whole = answer_with(alloc, entry, 1, &[])?;
+    Ok(whole.status == 0)
+}
+
+/// The first base entry of which some part is another answer than a cut entry, or which isn't accepted whole.
+fn first_uncut_base(alloc: Global) -> Result<Option<&'static str>, Fail> {
+    for entry in BASE {
+        if !is_each_cut_base(alloc, entry.bytes)? {
+            return Ok(Some(entry.line));
         }
     }
     Ok(None)
 }
 
-/// The same of extended entries.
-fn first_uncut_ext(alloc: Global) -> Result<Option<&'static str>, Fail> {
-    for (entry, line) in EXT {
-        for kept in 1..entry.len() {
-            let (part, _) = entry.split_at(kept);
-            let answer = answer_with(alloc, &[], 0, part)?;
-            if !answer.is(7, b"mptab: fault 16 CutExtEntry at 0000053C\n") {
-                return Ok(Some(line));
-            }
+/// The same as `is_cut_base`, of an extended entry.
+fn is_cut_ext(alloc: Global, part: &[u8]) -> Result<bool, Fail> {
+    let answer = answer_with(alloc, &[], 0, part)?;
+    Ok(answer.is(7, b"mptab: fault 16 CutExtEntry at 0000053C\n"))
+}
+
+/// The same as `is_each_cut_base`, of an extended entry.
+fn is_each_cut_ext(alloc: Global, entry: &[u8]) -> Result<bool, Fail> {
+    for kept in 1..entry.len() {
+        let (part, _) = entry.split_at(kept);
+        if !is_cut_ext(alloc, part)? {
+            return Ok(false);
         }
-        if answer_with(alloc, &[], 0, entry)?.status != 0 {
-            return Ok(Some(line));
+    }
+    let whole = answer_with(alloc, &[], 0, entry)?;
+    Ok(whole.status == 0)
+}
+
+/// The same as `first_uncut_base`, of extended entries.
+fn first_uncut_ext(alloc: Global) -> Result<Option<&'static str>, Fail> {
+    for entry in EXT {
+        if !is_each_cut_ext(alloc, entry.bytes)? {
+            return Ok(Some(entry.line));
         }
     }
     Ok(None)
@@ -120,24 +174,37 @@ fn first_uncut_ext(alloc: Global) -> Result<Option<&'static str>, Fail> {
 
 #[test]
 fn every_cut(rt: HostRuntime) -> Result<(), Fail> {
-    assert_eq!(rt; first_uncut_base(rt.alloc())?, None);
-    assert_eq!(rt; first_uncut_ext(rt.alloc())?, None);
+    same(&rt, "a base entry", first_uncut_base(rt.alloc())?, None);
+    same(&rt, "an extended entry", first_uncut_ext(rt.alloc())?, None);
     Ok(())
+}
+
+/// The answer to a board with the longest opaque entry: 253 bytes behind type and length.
+fn answer_of_greatest(alloc: Global) -> Result<Answer, Fail> {
+    let mut entry = Vec::from_slice(alloc, b"\x84\xFF")?;
+    for _ in 0..253 {
+        entry.push(0x5A)?;
+    }
+    answer_with(alloc, &[], 0, entry.as_slice())
+}
+
+/// The listing of that board.
+fn listing_of_greatest(alloc: Global) -> Result<Vec<u8>, Fail> {
+    let mut text = Vec::from_slice(alloc, HEAD.as_bytes())?;
+    text.extend_from_slice(b"opaque kind 84 rest ")?;
+    for _ in 0..253 {
+        text.extend_from_slice(b"5A")?;
+    }
+    text.extend_from_slice(b"\nend\n")?;
+    Ok(text)
 }
 
 #[test]
 fn greatest_opaque_entry(rt: HostRuntime) -> Result<(), Fail> {
-    let mut entry = Vec::from_slice(rt.alloc(), b"\x84\xFF")?;
-    let mut text = Vec::from_slice(rt.alloc(), HEAD.as_bytes())?;
-    text.extend_from_slice(b"opaque kind 84 rest ")?;
-    for _ in 0..253 {
-        entry.push(0x5A)?;
-        text.extend_from_slice(b"5A")?;
-    }
-    text.extend_from_slice(b"\nend\n")?;
-    let answer = answer_with(rt.alloc(), &[], 0, entry.as_slice())?;
-    assert_eq!(rt; answer.status, 0);
-    assert_eq!(rt; answer.text.as_slice(), text.as_slice());
+    let answer = answer_of_greatest(rt.alloc())?;
+    let text = listing_of_greatest(rt.alloc())?;
+    same(&rt, "the status", answer.status, 0);
+    same(&rt, "the listing", answer.text.as_slice(), text.as_slice());
     Ok(())
 }
 

@@ -1,13 +1,13 @@
 //! Whole images and their answers: the worked rows of the format, and hostile images.
 
-use crate::harness::{POINTER, Piece, Row, TABLE, first_wrong};
+use crate::harness::{POINTER, Piece, Row, first_wrong, same};
 use std::test::Fail;
 
 /// The length of most images.
 const MIB: usize = 0x100000;
 
 /// The table, directly after the pointer.
-const AT: Piece = (0xF0010, TABLE);
+const AT: Piece = Piece::Table(0xF0010);
 
 const WORKED: &[Row] = &[
     Row {
@@ -26,12 +26,9 @@ end
         name: "the same board in an image of 1,360 bytes, named by the EBDA word",
         size: 1360,
         pieces: &[
-            (0x40E, b"\x50\x00"),
-            (
-                0x500,
-                b"_MP_\x10\x05\x00\x00\x01\x04\x8B\x00\x00\x00\x00\x00",
-            ),
-            (0x510, TABLE),
+            Piece::Bytes(0x40E, 2, 0x5000),
+            Piece::Bytes(0x500, 16, 0x5F4D505F_10050000_01048B00_00000000),
+            Piece::Table(0x510),
         ],
         status: 0,
         text: "mptable 1
@@ -54,11 +51,8 @@ end
         pieces: &[
             POINTER,
             AT,
-            (0x40E, b"\xC0\x9F"),
-            (
-                0x9FC00,
-                b"_MP_\x00\x00\x00\x00\x01\x04\x9B\x05\x00\x00\x00\x00",
-            ),
+            Piece::Bytes(0x40E, 2, 0xC09F),
+            Piece::Bytes(0x9FC00, 16, 0x5F4D505F_00000000_01049B05_00000000),
         ],
         status: 0,
         text: "mptable 1
@@ -70,15 +64,9 @@ end
         name: "a pointer whose sum is wrong is passed over",
         size: MIB,
         pieces: &[
-            (
-                0xF0000,
-                b"_MP_\x10\x00\x0F\x00\x01\x04\x80\x00\x00\x00\x00\x00",
-            ),
-            (
-                0xF0100,
-                b"_MP_\x00\x02\x0F\x00\x01\x04\x8F\x00\x00\x00\x00\x00",
-            ),
-            (0xF0200, TABLE),
+            Piece::Bytes(0xF0000, 16, 0x5F4D505F_10000F00_01048000_00000000),
+            Piece::Bytes(0xF0100, 16, 0x5F4D505F_00020F00_01048F00_00000000),
+            Piece::Table(0xF0200),
         ],
         status: 0,
         text: "mptable 1
@@ -91,55 +79,64 @@ end
     Row {
         name: "default configuration 8",
         size: MIB,
-        pieces: &[(
-            0xF0000,
-            b"_MP_\x00\x00\x00\x00\x01\x04\x98\x08\x00\x00\x00\x00",
-        )],
+        pieces: &[Piece::Bytes(0xF0000, 16, 0x5F4D505F_00000000_01049808_00000000)],
         status: 7,
         text: "mptab: fault 2 BadDefault at 000F000B\n",
     },
     Row {
         name: "no default configuration and no address",
         size: MIB,
-        pieces: &[(
-            0xF0000,
-            b"_MP_\x00\x00\x00\x00\x01\x04\xA0\x00\x00\x00\x00\x00",
-        )],
+        pieces: &[Piece::Bytes(0xF0000, 16, 0x5F4D505F_00000000_0104A000_00000000)],
         status: 7,
         text: "mptab: fault 3 NoTable at 000F0004\n",
     },
     Row {
         name: "base length 43: the sum is not looked at",
         size: MIB,
-        pieces: &[POINTER, AT, (0xF0014, b"\x2B\x00")],
+        pieces: &[POINTER, AT, Piece::Bytes(0xF0014, 2, 0x2B00)],
         status: 7,
         text: "mptab: fault 6 ShortLength at 000F0014\n",
     },
     Row {
         name: "base length 63 cuts the processor",
         size: MIB,
-        pieces: &[POINTER, AT, (0xF0014, b"\x3F\x00"), (0xF0017, b"\x9A")],
+        pieces: &[
+            POINTER,
+            AT,
+            Piece::Bytes(0xF0014, 2, 0x3F00),
+            Piece::Bytes(0xF0017, 1, 0x9A),
+        ],
         status: 7,
         text: "mptab: fault 11 CutEntry at 000F003C\n",
     },
     Row {
         name: "count 2",
         size: MIB,
-        pieces: &[POINTER, AT, (0xF0032, b"\x02"), (0xF0017, b"\x98")],
+        pieces: &[
+            POINTER,
+            AT,
+            Piece::Bytes(0xF0032, 1, 0x02),
+            Piece::Bytes(0xF0017, 1, 0x98),
+        ],
         status: 7,
         text: "mptab: fault 9 BadCount at 000F0032\n",
     },
     Row {
         name: "the checksum alone is wrong",
         size: MIB,
-        pieces: &[POINTER, AT, (0xF0017, b"\x9A")],
+        pieces: &[POINTER, AT, Piece::Bytes(0xF0017, 1, 0x9A)],
         status: 7,
         text: "mptab: fault 8 BadSum at 000F0017\n",
     },
     Row {
         name: "entry type 5",
         size: MIB,
-        pieces: &[POINTER, AT, (0xF003C, b"\x05"), (0xF0017, b"\x94")],
+        pieces: &[
+            POINTER,
+            AT,
+            Piece::Bytes(0xF003C, 1, 0x05),
+            Piece::Bytes(0xF0017, 1, 0x94),
+        ],
         status: 7,
         text: "mptab: fault 10 UnknownEntry at 000F003C\n",
     },
@@ -149,9 +146,9 @@ end
         pieces: &[
             POINTER,
             AT,
-            (0xF0038, b"\x02\x00\x7F"),
-            (0xF0017, b"\x18"),
-            (0xF0050, b"\x7F\x02"),
+            Piece::Bytes(0xF0038, 3, 0x02007F),
+            Piece::Bytes(0xF0017, 1, 0x18),
+            Piece::Bytes(0xF0050, 2, 0x7F02),
         ],
         status: 7,
         text: "mptab: fault 14 BadExtType at 000F0050\n",
@@ -162,9 +159,9 @@ end
         pieces: &[
             POINTER,
             AT,
-            (0xF0038, b"\x02\x00\x36"),
-            (0xF0017, b"\x61"),
-            (0xF0050, b"\xC8\x02"),
+            Piece::Bytes(0xF0038, 3, 0x020036),
+            Piece::Bytes(0xF0017, 1, 0x61),
+            Piece::Bytes(0xF0050, 2, 0xC802),
         ],
         status: 0,
         text: "mptable 1
@@ -181,9 +178,9 @@ end
         pieces: &[
             POINTER,
             AT,
-            (0xF0038, b"\x01\x00\x38"),
-            (0xF0017, b"\x60"),
-            (0xF0050, b"\xC8"),
+            Piece::Bytes(0xF0038, 3, 0x010038),
+            Piece::Bytes(0xF0017, 1, 0x60),
+            Piece::Bytes(0xF0050, 1, 0xC8),
         ],
         status: 7,
         text: "mptab: fault 16 CutExtEntry at 000F0050\n",
@@ -191,14 +188,19 @@ end
     Row {
         name: "base length 43 stands before the revision 2",
         size: MIB,
-        pieces: &[POINTER, AT, (0xF0014, b"\x2B\x00"), (0xF0016, b"\x02")],
+        pieces: &[
+            POINTER,
+            AT,
+            Piece::Bytes(0xF0014, 2, 0x2B00),
+            Piece::Bytes(0xF0016, 1, 0x02),
+        ],
         status: 7,
         text: "mptab: fault 6 ShortLength at 000F0014\n",
     },
     Row {
         name: "revision 2 stands before the checksum 00h",
         size: MIB,
-        pieces: &[POINTER, AT, (0xF0016, b"\x02\x00")],
+        pieces: &[POINTER, AT, Piece::Bytes(0xF0016, 2, 0x0200)],
         status: 7,
         text: "mptab: fault 1 BadRevision at 000F0016\n",
     },
@@ -227,10 +229,7 @@ const HOSTILE: &[Row] = &[
     Row {
         name: "a pointer at the last place",
         size: MIB,
-        pieces: &[(
-            0xFFFF0,
-            b"_MP_\x00\x00\x00\x00\x01\x04\x9B\x05\x00\x00\x00\x00",
-        )],
+        pieces: &[Piece::Bytes(0xFFFF0, 16, 0x5F4D505F_00000000_01049B05_00000000)],
         status: 0,
         text: "mptable 1
 pointer at 000FFFF0 table 00000000 revision 04 features 0500000000
@@ -240,10 +239,7 @@ end
     Row {
         name: "the image cuts a pointer at the last place",
         size: 0xFFFF8,
-        pieces: &[(
-            0xFFFF0,
-            b"_MP_\x00\x00\x00\x00\x01\x04\x9B\x05\x00\x00\x00\x00",
-        )],
+        pieces: &[Piece::Bytes(0xFFFF0, 16, 0x5F4D505F_00000000_01049B05_00000000)],
         status: 6,
         text: "mptab: no floating pointer\n",
     },
@@ -251,11 +247,8 @@ end
         name: "the greatest EBDA word: its area is cut at the image",
         size: MIB,
         pieces: &[
-            (
-                0xFFFF0,
-                b"_MP_\x00\x00\x00\x00\x01\x04\x9B\x05\x00\x00\x00\x00",
-            ),
-            (0x40E, b"\xFF\xFF"),
+            Piece::Bytes(0xFFFF0, 16, 0x5F4D505F_00000000_01049B05_00000000),
+            Piece::Bytes(0x40E, 2, 0xFFFF),
         ],
         status: 0,
         text: "mptable 1
@@ -267,11 +260,8 @@ end
         name: "the last place below 640 KiB",
         size: MIB,
         pieces: &[
-            (
-                0x9FFF0,
-                b"_MP_\x00\x00\x00\x00\x01\x04\x9B\x05\x00\x00\x00\x00",
-            ),
-            (0x413, b"\x80\x02"),
+            Piece::Bytes(0x9FFF0, 16, 0x5F4D505F_00000000_01049B05_00000000),
+            Piece::Bytes(0x413, 2, 0x8002),
         ],
         status: 0,
         text: "mptable 1
@@ -283,11 +273,8 @@ end
         name: "641 KiB: the kilobyte above",
         size: MIB,
         pieces: &[
-            (
-                0x9FFF0,
-                b"_MP_\x00\x00\x00\x00\x01\x04\x9B\x05\x00\x00\x00\x00",
-            ),
-            (0x413, b"\x81\x02"),
+            Piece::Bytes(0x9FFF0, 16, 0x5F4D505F_00000000_01049B05_00000000),
+            Piece::Bytes(0x413, 2, 0x8102),
         ],
         status: 6,
         text: "mptab: no floating pointer\n",
@@ -295,31 +282,33 @@ end
     Row {
         name: "the greatest address",
         size: MIB,
-        pieces: &[(
-            0xF0000,
-            b"_MP_\xFF\xFF\xFF\xFF\x01\x04\xA4\x00\x00\x00\x00\x00",
-        )],
+        pieces: &[Piece::Bytes(0xF0000, 16, 0x5F4D505F_FFFFFFFF_0104A400_00000000)],
         status: 7,
         text: "mptab: fault 4 TableOutside at 000F0004\n",
     },
     Row {
         name: "base length FFFFh",
         size: MIB,
-        pieces: &[POINTER, AT, (0xF0014, b"\xFF\xFF")],
+        pieces: &[POINTER, AT, Piece::Bytes(0xF0014, 2, 0xFFFF)],
         status: 7,
         text: "mptab: fault 7 LengthOutside at 000F0014\n",
     },
     Row {
         name: "extended length FFFFh",
         size: MIB,
-        pieces: &[POINTER, AT, (0xF0038, b"\xFF\xFF"), (0xF0017, b"\x9B")],
+        pieces: &[
+            POINTER,
+            AT,
+            Piece::Bytes(0xF0038, 2, 0xFFFF),
+            Piece::Bytes(0xF0017, 1, 0x9B),
+        ],
         status: 7,
         text: "mptab: fault 12 ExtOutside at 000F0038\n",
     },
     Row {
         name: "a zero signature",
         size: MIB,
-        pieces: &[POINTER, AT, (0xF0010, b"\x00\x00\x00\x00")],
+        pieces: &[POINTER, AT, Piece::Bytes(0xF0010, 4, 0x00000000)],
         status: 7,
         text: "mptab: fault 5 BadSignature at 000F0010\n",
     },
@@ -327,12 +316,14 @@ end
 
 #[test]
 fn worked_rows(rt: HostRuntime) -> Result<(), Fail> {
-    assert_eq!(rt; first_wrong(rt.alloc(), WORKED)?, None);
+    let wrong = first_wrong(rt.alloc(), WORKED)?;
+    same(&rt, "the first wrong row", wrong, None);
     Ok(())
 }
 
 #[test]
 fn hostile_images(rt: HostRuntime) -> Result<(), Fail> {
-    assert_eq!(rt; first_wrong(rt.alloc(), HOSTILE)?, None);
+    let wrong = first_wrong(rt.alloc(), HOSTILE)?;
+    same(&rt, "the first wrong row", wrong, None);
     Ok(())
 }
