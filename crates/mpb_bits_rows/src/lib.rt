@@ -2,4 +2,6 @@
 #![tactic(auto)]
 
 #[cfg(test)]
+mod harness;
+#[cfg(test)]
 mod sets;
