@@ -360,7 +360,7 @@ fn a_ring_of_all_buses(rt: HostRuntime) -> Result<(), Fail> {
     Ok(())
 }
 
-// a table that breaks every rule but the one on revisions, which well formed tables keep
+// a table that breaks every rule but the one on revisions
 fn all_rules(alloc: Global) -> Result<Tables, AllocError> {
     let base = [
         cpu(0, 2),

@@ -134,6 +134,7 @@ pub(crate) fn with_entries(
         oem_size: 0,
         local_address: 0xFEE0_0000,
         reserved,
+        old: [0; 4],
         base: Sequence::new(base),
         ext: Sequence::new(ext),
     };

@@ -13,7 +13,8 @@ use Rattle.mpt_rules.specs.declared.rule.Rule.{Rule}
 use Rattle.mpt_rules.specs.declared.rule.Rule.TheVariants as rule
 use Rattle.mpt_rules.specs.declared.rule.Finding.{Finding}
 use Rattle.mpt_rules.specs.Places.{nowhere}
-use Rattle.mpt_rules.specs.Rules.{BreaksRule, HasClearPointerBits}
+use Rattle.mpt_spec.specs.Canonical.{HasClearPointerBits}
+use Rattle.mpt_rules.specs.Rules.{BreaksRule}
 
 -- the rules by number, from 1
 abbrev pub rules : List Rule

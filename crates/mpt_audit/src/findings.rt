@@ -10,7 +10,7 @@ ghost use Rattle.mpt_audit.specs.Progress.{AreFindingsBefore};
 use mpt_base::NoMemory;
 use mpt_rules::{
     BaseIndex, BaseRule, ExtIndex, ExtRule, Finding, Rule, TableRule, base_index_of, ext_index_of,
-    has_clear_pointer_bits, other_of,
+    other_of,
 };
 use mpt_spec::{Body, Pointer, Table, Tables};
 use std::alloc::{AllocError, Global};
@@ -109,7 +109,7 @@ fn audit_pointer(alloc: Global, pointer: &Pointer) -> Result<Vec<Finding>, Alloc
     ensures { IfOk result (λ found. ListsInOrder (IsDefaultFinding pointer.now) found.items) }
 {
     let mut out = Vec::new(alloc);
-    if !has_clear_pointer_bits(pointer) {
+    if !pointer.has_clear_bits() {
         out.push(Finding {
             rule: 15,
             entry: 65535,

@@ -1,5 +1,5 @@
 -- Each sentence of an audit rule over one entry, or two, is decided.
-use Rattle.std.proofs.Common.{◌≡◌, ℕ, ◌+◌, ◌/◌, ◌%◌, ◌^◌, List, replicate, inl}
+use Rattle.std.proofs.Common.{ℕ, ◌+◌, ◌/◌, ◌%◌, ◌^◌, List, replicate, inl}
 use Rattle.std.specs.Prelude.{codes}
 use Rattle.mpt_laws.proofs.EntryJudgment.{Decided, decided-eq, decided-list}
 use Rattle.mpt_laws.proofs.Decisions.{never, both, all_three, all_four, not, at_most, below, contained}

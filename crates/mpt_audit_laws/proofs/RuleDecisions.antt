@@ -1,7 +1,7 @@
 -- Each audit rule is decided at each place: it is broken there and names a place, or isn't broken.
-use Rattle.std.proofs.Common.{◌≡◌, ℕ, zero, suc, ◌+◌, ◌/◌, ◌%◌, ◌⊎◌, List, length, refl, subst, inl, inr}
-use Rattle.std.specs.Prelude.{take, filter, slice_get, slice_index}
-use Rattle.mpt_laws.proofs.EntryJudgment.{Decided, decided-eq}
+use Rattle.std.proofs.Common.{◌≡◌, ℕ, zero, suc, ◌/◌, ◌%◌, ◌⊎◌, List, length, replicate, refl, subst, inl, inr}
+use Rattle.std.specs.Prelude.{take, filter, slice_index}
+use Rattle.mpt_laws.proofs.EntryJudgment.{Decided, decided-eq, decided-list}
 use Rattle.mpt_laws.proofs.Decisions.{never, both, all_four, either, not, at_most, below}
 use Rattle.mpt_spec.specs.declared.entry.IntEntry.{IntEntry}
 use Rattle.mpt_spec.specs.declared.entry.Base.{Base}
@@ -10,6 +10,7 @@ use Rattle.mpt_spec.specs.declared.entry.Ext.{Ext}
 use Rattle.mpt_spec.specs.declared.entry.Ext.TheVariants as ext
 use Rattle.mpt_spec.specs.declared.pointer.Pointer.{Pointer}
 use Rattle.mpt_spec.specs.declared.tables.Table.{Table}
+use Rattle.mpt_spec.specs.Canonical.{HasClearHeader, HasClearPointerBits}
 use Rattle.mpt_rules.specs.declared.rule.TableRule.{TableRule}
 use Rattle.mpt_rules.specs.declared.rule.TableRule.TheVariants as on_table
 use Rattle.mpt_rules.specs.declared.rule.BaseRule.{BaseRule}
@@ -20,7 +21,7 @@ use Rattle.mpt_rules.specs.declared.rule.Rule.{Rule}
 use Rattle.mpt_rules.specs.declared.rule.Rule.TheVariants as rule
 use Rattle.mpt_rules.specs.Places.{HoldsAt, HoldsNowhere, IsFirstOf, IsFirstBefore, nowhere}
 use Rattle.mpt_rules.specs.Entries.{IsBootProcessor, HasBootFlag, IsProcessorOf, IsIoApicOf, IsBusOf, IsEnabledIoApic, is_bus, SharesProcessorId, SharesIoApicId, SharesIdWithProcessor, IsPciBus, HasTypeAbove, HasSameSource, DiffersInSense, MeetsRange, IsHierarchyOf, GivesParent}
-use Rattle.mpt_rules.specs.Rules.{IsBusOutOfOrder, HasUnknownBus, HasUnknownDestination, IsPci, IsReservedInterrupt, HasReservedValue, IsReservedExt, HasUnknownExtBus, IsParentOf, ReachesWithin, IsInBusLoop, HasClearPointerBits, HasReservedHeaderBits, BreaksTableRule, BreaksBaseRule, BreaksExtRule, BreaksRule}
+use Rattle.mpt_rules.specs.Rules.{IsBusOutOfOrder, HasUnknownBus, HasUnknownDestination, IsPci, IsReservedInterrupt, HasReservedValue, HasUnknownExtBus, IsParentOf, ReachesWithin, IsInBusLoop, BreaksTableRule, BreaksBaseRule, BreaksExtRule, BreaksRule}
 use Rattle.mpt_rules.proofs.PlaceLemmas.{first_one}
 use Rattle.mpt_rules.proofs.MeetLemmas.{parent_one}
 use Rattle.mpt_audit_laws.proofs.PlaceDecisions.{IsFound, holds_at, earlier_found, first_or_nowhere, first_found, holds_nowhere, last_found, alone_found, and_found, table_found, entry_found}
@@ -31,10 +32,23 @@ use Rattle.mpt_audit_laws.proofs.EntryDecisions.{boot_processor, boot_flag, disa
 pub clear_pointer_bits : (p : Pointer) → Decided (HasClearPointerBits p)
 clear_pointer_bits p = all_four (decided-eq (slice_index p.features 1 % 64) 0) (decided-eq (slice_index p.features 2) 0) (decided-eq (slice_index p.features 3) 0) (decided-eq (slice_index p.features 4) 0)
 
+-- byte 43 is zero, or at revision 1 bytes 40 to 43
+clear_header : (t : Table) → Decided (t.revision ≡ 1) → Decided (HasClearHeader t)
+clear_header t (inl one) = by_old (decided-list t.old (replicate 4 0))
+  where
+    by_old : Decided (t.old ≡ replicate 4 0) → Decided (HasClearHeader t)
+    by_old (inl e) = inl (λ _. e, λ new. absurd (new one))
+    by_old (inr n) = inr (λ h. n (h.0 one))
+clear_header t (inr new) = by_byte (decided-eq t.reserved 0)
+  where
+    by_byte : Decided (t.reserved ≡ 0) → Decided (HasClearHeader t)
+    by_byte (inl e) = inl (λ one. absurd (new one), λ _. e)
+    by_byte (inr n) = inr (λ h. n (h.1 new))
+
 table_rule : (p : Pointer) (t : Table) (r : TableRule) → Decided (BreaksTableRule p t r)
 table_rule p t on_table.NoBootProcessor = holds_nowhere IsBootProcessor boot_processor t.base
 table_rule p t on_table.NoIoApic = holds_nowhere IsEnabledIoApic enabled_io_apic t.base
-table_rule p t on_table.ReservedHeaderBits = either (not (clear_pointer_bits p)) (not (decided-eq t.reserved 0))
+table_rule p t on_table.ReservedHeaderBits = either (not (clear_pointer_bits p)) (not (clear_header t (decided-eq t.revision 1)))
 table_rule p t on_table.TwoRevisions = not (decided-eq p.revision t.revision)
 
 -- ---- a base entry

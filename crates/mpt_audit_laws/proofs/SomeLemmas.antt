@@ -1,5 +1,5 @@
 -- All tables have a list of findings: rule by rule, and place by place.
-use Rattle.std.proofs.Common.{◌≡◌, ℕ, zero, suc, ◌+◌, ◌<◌, ◌≤◌, ◌⊎◌, List, [], ◌∷◌, ◌++◌, length, Option, Some, get_or, refl, sym, subst, inl, inr, arith}
+use Rattle.std.proofs.Common.{◌≡◌, ℕ, zero, suc, ◌+◌, ◌<◌, ◌≤◌, ◌⊎◌, List, [], ◌∷◌, ◌++◌, length, Some, get_or, refl, sym, subst, inl, inr, arith}
 use Rattle.std.specs.Prelude.{slice_get}
 use Rattle.std.specs.List.{Contains}
 use Rattle.std.proofs.lemmas.Option.{slice_get-get_or}
@@ -15,7 +15,8 @@ use Rattle.mpt_rules.specs.declared.rule.Rule.{Rule}
 use Rattle.mpt_rules.specs.declared.rule.Rule.TheVariants as rule
 use Rattle.mpt_rules.specs.declared.rule.Finding.{Finding}
 use Rattle.mpt_rules.specs.Places.{nowhere}
-use Rattle.mpt_rules.specs.Rules.{BreaksRule, IsPlaceOf, HasClearPointerBits}
+use Rattle.mpt_spec.specs.Canonical.{HasClearPointerBits}
+use Rattle.mpt_rules.specs.Rules.{BreaksRule, IsPlaceOf}
 use Rattle.mpt_audit.specs.Findings.{rules, IsTableFinding, IsDefaultFinding, IsFindingOf, ListsInOrder, AreFindingsOf}
 use Rattle.mpt_audit.specs.Progress.{AreFindingsBefore}
 use Rattle.mpt_audit.proofs.FindingLemmas.{finding_at, start, passed, found, next, broken_place, whole}

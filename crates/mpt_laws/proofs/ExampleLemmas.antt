@@ -1,11 +1,11 @@
 -- The worked examples, by computing them.
-use Rattle.std.proofs.Common.{◌≡◌, ℕ, ◌%◌, ◌≤◌, List, [], ◌∷◌, ◌++◌, refl, inr, arith}
+use Rattle.std.proofs.Common.{◌≡◌, ℕ, ◌%◌, ◌≤◌, List, [], ◌∷◌, ◌++◌, refl, inl, inr, arith}
 use Rattle.mpt_base.specs.Bytes.{part}
 use Rattle.mpt_spec.specs.Pointer.{IsFloatingPointer}
 use Rattle.mpt_spec.specs.Search.{HasPointerAt, IsFirstPointerAt, search_places}
 use Rattle.mpt_spec.specs.Table.{IsConfigurationTable, Describes}
 use Rattle.mpt_spec.specs.Canonical.{IsCanonical, FitsInImage, HasPlaceFor}
-use Rattle.mpt_laws.specs.Examples.{one_processor, one_processor_bytes, header_with, entry_with, small_pointer, small_image_with, small_image, small_tables, extended_tables, default_image, default_tables, placed, second_place_image, second_place_tables, board_tables}
+use Rattle.mpt_laws.specs.Examples.{one_processor, one_processor_bytes, header_with, entry_with, small_pointer, small_image_with, small_image, small_tables, extended_tables, default_image, default_tables, placed, second_place_image, second_place_tables, board_tables, old_pointer, old_image, old_tables}
 
 -- the floating pointer of the small image, whatever stands behind it
 pub small_pointer_there : (table : List ℕ) → IsFloatingPointer small_pointer (part (small_image_with table) 0x500 16)
@@ -17,12 +17,12 @@ small_pointer_first table rest places = record { before = []; after = rest; spli
 small_table_there : IsConfigurationTable one_processor small_image 0x510
 small_table_there = record {
   inside = record { base = record { header = omega arith; inside = omega arith }; inside = omega arith };
-  header = record { signature = refl; revision = refl; oem = refl; product = refl; oem_table = refl; oem_size = refl; local_address = refl; reserved = refl };
-  revision = refl;
+  header = record { signature = refl; revision = refl; oem = refl; product = refl; oem_table = refl; oem_size = refl; local_address = refl; reserved = refl; old = refl };
+  revision = inr refl;
   checksum = refl;
   count = refl;
   base = (record { type_byte = refl; apic = refl; version = refl; flags = refl; signature = refl; features = refl; reserved = refl }, refl);
-  ext_checksum = refl;
+  ext_checksum = λ _. refl;
   ext = refl;
 }
 
@@ -30,7 +30,7 @@ pub Describes-small : Describes small_image small_tables
 unfolding search_places
 Describes-small = record {
   first = small_pointer_first one_processor_bytes (0x510 ∷ 0x520 ∷ 0x530 ∷ 0x540 ∷ []) refl;
-  tables_there = record { pointer = small_pointer_there one_processor_bytes; revision = refl; body = (refl, omega arith, small_table_there) };
+  tables_there = record { pointer = small_pointer_there one_processor_bytes; revision = inr refl; body = (refl, omega arith, small_table_there) };
 }
 
 -- the table with an opaque extended entry
@@ -43,18 +43,18 @@ Describes-extended = record {
   first = small_pointer_first extended_bytes (0x510 ∷ 0x520 ∷ 0x530 ∷ 0x540 ∷ []) refl;
   tables_there = record {
     pointer = small_pointer_there extended_bytes;
-    revision = refl;
+    revision = inr refl;
     body = (
       refl,
       omega arith,
       record {
         inside = record { base = record { header = omega arith; inside = omega arith }; inside = omega arith };
-        header = record { signature = refl; revision = refl; oem = refl; product = refl; oem_table = refl; oem_size = refl; local_address = refl; reserved = refl };
-        revision = refl;
+        header = record { signature = refl; revision = refl; oem = refl; product = refl; oem_table = refl; oem_size = refl; local_address = refl; reserved = refl; old = refl };
+        revision = inr refl;
         checksum = refl;
         count = refl;
         base = (record { type_byte = refl; apic = refl; version = refl; flags = refl; signature = refl; features = refl; reserved = refl }, refl);
-        ext_checksum = refl;
+        ext_checksum = λ _. refl;
         ext = (record { type_byte = refl; above = omega arith; length_byte = refl; rest = refl }, refl);
       },
     );
@@ -68,7 +68,7 @@ pub Describes-default : Describes (default_image 5 0x9B) (default_tables 5)
 unfolding search_places
 Describes-default = record {
   first = record { before = []; after = []; split = refl; none_before = tt; holds = ((default_tables 5).pointer, default_pointer_there) };
-  tables_there = record { pointer = default_pointer_there; revision = refl; body = (refl, omega arith, omega arith) };
+  tables_there = record { pointer = default_pointer_there; revision = inr refl; body = (refl, omega arith, omega arith) };
 }
 
 second_pointer_there : IsFloatingPointer second_place_tables.pointer (part second_place_image 0x510 16)
@@ -89,18 +89,18 @@ Describes-second_place = record {
   };
   tables_there = record {
     pointer = second_pointer_there;
-    revision = refl;
+    revision = inr refl;
     body = (
       refl,
       omega arith,
       record {
         inside = record { base = record { header = omega arith; inside = omega arith }; inside = omega arith };
-        header = record { signature = refl; revision = refl; oem = refl; product = refl; oem_table = refl; oem_size = refl; local_address = refl; reserved = refl };
-        revision = refl;
+        header = record { signature = refl; revision = refl; oem = refl; product = refl; oem_table = refl; oem_size = refl; local_address = refl; reserved = refl; old = refl };
+        revision = inr refl;
         checksum = refl;
         count = refl;
         base = (record { type_byte = refl; apic = refl; version = refl; flags = refl; signature = refl; features = refl; reserved = refl }, refl);
-        ext_checksum = refl;
+        ext_checksum = λ _. refl;
         ext = refl;
       },
     );
@@ -109,18 +109,15 @@ Describes-second_place = record {
 
 pub IsCanonical-board : IsCanonical board_tables
 IsCanonical-board = record {
-  feature_byte_2 = refl;
-  feature_byte_3 = refl;
-  feature_byte_4 = refl;
-  feature_byte_5 = refl;
-  body = (refl, ((omega arith, refl), ((omega arith, refl), omega arith)), omega arith, tt);
+  pointer = (refl, refl, refl, refl);
+  body = ((λ one. absurd (omega (arith, one)), λ _. refl), ((omega arith, refl), ((omega arith, refl), omega arith)), omega arith, tt);
 }
 
 pub FitsInImage-board : FitsInImage board_tables
 FitsInImage-board = record {
   well_formed = record {
-    revision = refl;
-    body = (refl, omega arith, record { revision = refl; lawful = tt; base_fits = omega arith; ext_fits = omega arith });
+    revision = inr refl;
+    body = (refl, omega arith, record { revision = inl (refl, refl); lawful = tt; base_fits = omega arith; ext_fits = omega arith });
     paragraph = refl;
   };
   low = omega arith;
@@ -132,8 +129,8 @@ FitsInImage-board = record {
 pub FitsInImage-placed : (at address : ℕ) → at % 16 ≡ 0 → 0x500 ≤ at → at ≤ 0xFFFF0 → HasPlaceFor 64 address at → FitsInImage (placed at address)
 FitsInImage-placed at address boundary low high place = record {
   well_formed = record {
-    revision = refl;
-    body = (refl, omega (arith, place.low), record { revision = refl; lawful = tt; base_fits = omega arith; ext_fits = omega arith });
+    revision = inr refl;
+    body = (refl, omega (arith, place.low), record { revision = inl (refl, refl); lawful = tt; base_fits = omega arith; ext_fits = omega arith });
     paragraph = boundary;
   };
   low = low;
@@ -144,8 +141,36 @@ FitsInImage-placed at address boundary low high place = record {
 -- a default configuration, whatever the address
 pub FitsInImage-default : (n address : ℕ) → 1 ≤ n → n ≤ 7 → FitsInImage (record (default_tables n) { pointer = record (default_tables n).pointer { address = address } })
 FitsInImage-default n address some few = record {
-  well_formed = record { revision = refl; body = (refl, some, few); paragraph = refl };
+  well_formed = record { revision = inr refl; body = (refl, some, few); paragraph = refl };
   low = omega arith;
   high = omega arith;
   block = tt;
+}
+
+-- the image of a table of revision 1
+old_pointer_there : IsFloatingPointer old_pointer (part old_image 0x500 16)
+old_pointer_there = record { size = refl; signature = refl; address = refl; paragraphs = refl; revision = refl; features = refl; checksum = refl }
+
+pub Describes-old : Describes old_image old_tables
+unfolding search_places
+Describes-old = record {
+  first = record { before = []; after = 0x510 ∷ 0x520 ∷ 0x530 ∷ 0x540 ∷ []; split = refl; none_before = tt; holds = (old_pointer, old_pointer_there) };
+  tables_there = record {
+    pointer = old_pointer_there;
+    revision = inl refl;
+    body = (
+      refl,
+      omega arith,
+      record {
+        inside = record { base = record { header = omega arith; inside = omega arith }; inside = omega arith };
+        header = record { signature = refl; revision = refl; oem = refl; product = refl; oem_table = refl; oem_size = refl; local_address = refl; reserved = refl; old = refl };
+        revision = inl refl;
+        checksum = refl;
+        count = refl;
+        base = (record { type_byte = refl; apic = refl; version = refl; flags = refl; signature = refl; features = refl; reserved = refl }, refl);
+        ext_checksum = λ new. absurd (new refl);
+        ext = refl;
+      },
+    );
+  };
 }

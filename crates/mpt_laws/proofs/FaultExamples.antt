@@ -1,5 +1,5 @@
 -- The worked faults: each stands, and no other is before it.
-use Rattle.std.proofs.Common.{◌≡◌, ℕ, ◌+◌, ◌≤◌, List, [], ◌∷◌, ◌++◌, length, refl, inl, arith}
+use Rattle.std.proofs.Common.{◌≡◌, ℕ, ◌+◌, ◌≤◌, List, [], ◌∷◌, ◌++◌, length, refl, inl, inr, arith}
 use Rattle.mpt_base.specs.declared.fault.Reason.{Reason}
 use Rattle.mpt_base.specs.declared.fault.Reason.TheVariants as why
 use Rattle.mpt_spec.specs.declared.entry.Base.{Base}
@@ -9,7 +9,8 @@ use Rattle.mpt_spec.specs.Pointer.{IsFloatingPointer}
 use Rattle.mpt_spec.specs.Entries.{AreBaseEntries, IsUnknownEntryIn, IsCutEntryIn}
 use Rattle.mpt_spec.specs.Extended.{IsBadExtTypeIn, IsCutExtEntryIn}
 use Rattle.mpt_spec.specs.Faults.{HasTableFaultAt, HasPointerFaultAt, HasNoPointerFault, IsFirstFault, fault_order}
-use Rattle.mpt_laws.specs.Examples.{header_with, entry_with, processor, small_image_with, default_image, default_tables}
+use Rattle.mpt_spec.specs.Revision.{IsKnownRevision}
+use Rattle.mpt_laws.specs.Examples.{header_of, header_with, entry_with, processor, small_image_with, default_image, default_tables}
 use Rattle.mpt_spec.proofs.FirstFaultLemmas.{no_pointer_fault, IsFirstFault-of_table, IsFirstFault-of_pointer, HasTableFaultAt-offset, HasSoundHeader, IsBaseFaultIn-first, IsExtFaultIn-first}
 use Rattle.mpt_laws.proofs.ExampleLemmas.{small_pointer_first}
 
@@ -17,7 +18,7 @@ use Rattle.mpt_laws.proofs.ExampleLemmas.{small_pointer_first}
 small_fault : (table rest : List ℕ) (k : ℕ) (w : Reason) → search_places (small_image_with table) ≡ 0x500 ∷ rest → 0x510 + 44 ≤ length (small_image_with table) → HasTableFaultAt (small_image_with table) 0x510 k w
     → ((j : ℕ) (v : Reason) → HasTableFaultAt (small_image_with table) 0x510 j v → fault_order k w ≤ fault_order j v) → IsFirstFault (small_image_with table) k w
 small_fault table rest k w places inside stands least =
-    let none : HasNoPointerFault (small_image_with table) 0x500 = no_pointer_fault (small_image_with table) 0x500 refl refl (omega arith) inside in
+    let none : HasNoPointerFault (small_image_with table) 0x500 = no_pointer_fault (small_image_with table) 0x500 (inr refl) refl (omega arith) inside in
     IsFirstFault-of_table (small_image_with table) 0x500 k w (small_pointer_first table rest places) none refl stands least
 
 abbrev short_length : List ℕ
@@ -31,6 +32,24 @@ pub IsFirstFault-short_length : IsFirstFault (small_image_with short_length) 0x5
 unfolding search_places
 IsFirstFault-short_length = small_fault short_length (0x510 ∷ 0x520 ∷ 0x530 ∷ 0x540 ∷ []) 0x514 why.ShortLength refl (omega arith) (refl, omega arith) short_length_least
 
+-- a revision that is neither 1 nor 4
+abbrev unknown_revision : List ℕ
+unknown_revision = header_of 2 0x40 0x9B 1 (0 ∷ 0 ∷ 0 ∷ 0 ∷ []) ++ entry_with 0
+
+unknown_revision_least : (j : ℕ) (v : Reason) → HasTableFaultAt (small_image_with unknown_revision) 0x510 j v → fault_order 0x516 why.BadRevision ≤ fault_order j v
+unknown_revision_least j why.BadSignature h = absurd (h.1 refl)
+unknown_revision_least j why.ShortLength h = absurd (omega (arith, h.1))
+unknown_revision_least j why.LengthOutside h = absurd (omega (arith, h.2))
+unknown_revision_least j v h = omega (arith, HasTableFaultAt-offset (small_image_with unknown_revision) 0x510 j v h)
+
+two_unknown : IsKnownRevision 2 → ⊥
+two_unknown (inl h) = omega (arith, h)
+two_unknown (inr h) = omega (arith, h)
+
+pub IsFirstFault-unknown_revision : IsFirstFault (small_image_with unknown_revision) 0x516 why.BadRevision
+unfolding search_places
+IsFirstFault-unknown_revision = small_fault unknown_revision (0x510 ∷ 0x520 ∷ 0x530 ∷ 0x540 ∷ []) 0x516 why.BadRevision refl (omega arith) (refl, two_unknown) unknown_revision_least
+
 abbrev bad_sum : List ℕ
 bad_sum = header_with 0x40 0x9A 1 0 0 ++ entry_with 0
 
@@ -38,7 +57,7 @@ bad_sum_least : (j : ℕ) (v : Reason) → HasTableFaultAt (small_image_with bad
 bad_sum_least j why.BadSignature h = absurd (h.1 refl)
 bad_sum_least j why.ShortLength h = absurd (omega (arith, h.1))
 bad_sum_least j why.LengthOutside h = absurd (omega (arith, h.2))
-bad_sum_least j why.BadRevision h = absurd (h.1 refl)
+bad_sum_least j why.BadRevision h = absurd (h.1 (inr refl))
 bad_sum_least j v h = omega (arith, HasTableFaultAt-offset (small_image_with bad_sum) 0x510 j v h)
 
 pub IsFirstFault-bad_sum : IsFirstFault (small_image_with bad_sum) 0x517 why.BadSum
@@ -53,7 +72,7 @@ bad_count_least : (j : ℕ) (v : Reason) → HasTableFaultAt (small_image_with b
 bad_count_least j why.BadSignature h = absurd (h.1 refl)
 bad_count_least j why.ShortLength h = absurd (omega (arith, h.1))
 bad_count_least j why.LengthOutside h = absurd (omega (arith, h.2))
-bad_count_least j why.BadRevision h = absurd (h.1 refl)
+bad_count_least j why.BadRevision h = absurd (h.1 (inr refl))
 bad_count_least j why.BadSum h = absurd (h.2 refl)
 bad_count_least j v h = omega (arith, HasTableFaultAt-offset (small_image_with bad_count) 0x510 j v h)
 
@@ -76,9 +95,9 @@ IsFirstFault-cut_entry =
     let sound : HasSoundHeader image 0x510 = record {
       signature = refl;
       inside = record { base = record { header = omega arith; inside = omega arith }; inside = omega arith };
-      revision = refl;
+      revision = inr refl;
       checksum = refl;
-      ext_checksum = refl;
+      ext_checksum = λ _. refl;
     } in
     let stands : IsCutEntryIn image 0x53C 0x54F 0x53C = (record { entries = []; are_entries = refl; more = omega arith }, omega arith, omega arith) in
     small_fault cut_entry (0x510 ∷ 0x520 ∷ 0x530 ∷ 0x540 ∷ []) 0x53C why.CutEntry refl (omega arith) (sound.inside.base, stands) (IsBaseFaultIn-first image 0x510 0x53C why.CutEntry sound stands)
@@ -93,9 +112,9 @@ IsFirstFault-unknown_entry =
     let sound : HasSoundHeader image 0x510 = record {
       signature = refl;
       inside = record { base = record { header = omega arith; inside = omega arith }; inside = omega arith };
-      revision = refl;
+      revision = inr refl;
       checksum = refl;
-      ext_checksum = refl;
+      ext_checksum = λ _. refl;
     } in
     let stands : IsUnknownEntryIn image 0x53C 0x550 0x53C = (record { entries = []; are_entries = refl; more = omega arith }, omega arith) in
     small_fault unknown_entry (0x510 ∷ 0x520 ∷ 0x530 ∷ 0x540 ∷ []) 0x53C why.UnknownEntry refl (omega arith) (sound.inside.base, stands) (IsBaseFaultIn-first image 0x510 0x53C why.UnknownEntry sound stands)
@@ -110,9 +129,9 @@ IsFirstFault-bad_ext_type =
     let sound : HasSoundHeader image 0x510 = record {
       signature = refl;
       inside = record { base = record { header = omega arith; inside = omega arith }; inside = omega arith };
-      revision = refl;
+      revision = inr refl;
       checksum = refl;
-      ext_checksum = refl;
+      ext_checksum = λ _. refl;
     } in
     let tiles : AreBaseEntries one_entry image 0x53C 0x550 = (record { type_byte = refl; apic = refl; version = refl; flags = refl; signature = refl; features = refl; reserved = refl }, refl) in
     let stands : IsBadExtTypeIn image 0x550 0x552 0x550 = (record { entries = []; are_entries = refl; more = omega arith }, omega arith) in
@@ -128,9 +147,9 @@ IsFirstFault-cut_ext_entry =
     let sound : HasSoundHeader image 0x510 = record {
       signature = refl;
       inside = record { base = record { header = omega arith; inside = omega arith }; inside = omega arith };
-      revision = refl;
+      revision = inr refl;
       checksum = refl;
-      ext_checksum = refl;
+      ext_checksum = λ _. refl;
     } in
     let tiles : AreBaseEntries one_entry image 0x53C 0x550 = (record { type_byte = refl; apic = refl; version = refl; flags = refl; signature = refl; features = refl; reserved = refl }, refl) in
     let stands : IsCutExtEntryIn image 0x550 0x551 0x550 = (record { entries = []; are_entries = refl; more = omega arith }, omega arith, inl refl) in
@@ -140,7 +159,7 @@ IsFirstFault-cut_ext_entry =
 bad_default_least : (j : ℕ) (v : Reason) → HasPointerFaultAt (default_image 8 0x98) 0x500 j v → fault_order 0x50B why.BadDefault ≤ fault_order j v
 bad_default_least j why.NoTable h = absurd (omega (arith, h.1))
 bad_default_least j why.TableOutside h = absurd (omega (arith, h.1))
-bad_default_least j why.BadRevision h = absurd (h.1 refl)
+bad_default_least j why.BadRevision h = absurd (h.1 (inr refl))
 bad_default_least j why.BadDefault h = omega (arith, h.0)
 bad_default_least j _ h = absurd h
 

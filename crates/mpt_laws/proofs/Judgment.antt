@@ -14,13 +14,19 @@ use Rattle.mpt_spec.specs.Pointer.{IsFloatingPointer}
 use Rattle.mpt_spec.specs.Search.{search_places, HasPointerAt, IsFirst, HoldsAtNone, IsFirstPointerAt, HasNoPointer}
 use Rattle.mpt_spec.specs.Entries.{AreBaseEntries, IsBaseFaultIn}
 use Rattle.mpt_spec.specs.Extended.{AreExtEntries, IsExtFaultIn}
-use Rattle.mpt_spec.specs.Table.{default_number, base_length_at, ext_length_at, count_at, base_end, ext_end, HasBaseInside, HasExtInside, HasChecksum, HasExtChecksum, IsConfigurationTable}
-use Rattle.mpt_spec.specs.Faults.{address_at, default_at, HasPointerFaultAt, HasBadCountAt, HasTableFaultAt, fault_order}
+use Rattle.mpt_spec.specs.Revision.{IsKnownRevision}
+use Rattle.mpt_spec.specs.Table.{default_number, base_length_at, ext_length_at, count_at, revision_at, reserved_at, old_at, base_end, ext_end, HasBaseInside, HasExtInside, HasChecksum, SumsWithExtChecksum, IsConfigurationTable}
+use Rattle.mpt_spec.specs.Faults.{address_at, default_at, HasPointerFaultAt, HasBadCountAt, HasTableFaultAt, fault_order, IsLeastFault}
 use Rattle.mpt_laws.specs.Laws.{IsDescribed, HasFirstFault}
 use Rattle.mpt_spec.proofs.EntryLemmas.{AreBaseEntries-unique, IsBaseFaultIn-no_entries}
 use Rattle.mpt_laws.proofs.EntryJudgment.{Decided, decided-eq, decided-list, AreJudgedBase, AreJudgedExt, AreBaseEntries-judged, AreExtEntries-judged}
+use Rattle.mpt_laws.proofs.Decisions.{either}
 use Rattle.mpt_spec.proofs.CallerLemmas.{HasPointerFieldsAt, IsFloatingPointer-fields}
 use Rattle.mpt_spec.proofs.FirstFaultLemmas.{HasTableFaultAt-offset, HasSoundHeader, IsBaseFaultIn-first, IsExtFaultIn-first, IsFirstFault-of_table, IsFirstFault-of_pointer}
+
+-- a revision is known or isn't
+known_decided : (r : ℕ) → Decided (IsKnownRevision r)
+known_decided r = either (decided-eq r 1) (decided-eq r 4)
 
 -- a place has a floating pointer or has none
 pointer_decided : (bytes : List ℕ) → Decided ((p : Pointer) × IsFloatingPointer p bytes)
@@ -47,12 +53,9 @@ first_decided P d (x ∷ xs) = by_head (d x) (first_decided P d xs)
     by_head (inr n) (inl none) = inl (n, none)
     by_head (inr n) (inr f) = inr (f.0, record { before = x ∷ f.1.before; after = f.1.after; split = ap (λ ys. x ∷ ys) f.1.split; none_before = (n, f.1.none_before); holds = f.1.holds })
 
--- the first fault of the floating pointer, or none
-record IsLeast (Stands : ℕ → Reason → Type 0) : Type 0 where
-  k : ℕ
-  reason : Reason
-  stands : Stands k reason
-  least : (j : ℕ) (v : Reason) → Stands j v → fault_order k reason ≤ fault_order j v
+-- there is a least of these faults
+abbrev HasLeast : (ℕ → Reason → Type 0) → Type 0
+HasLeast Stands = (k : ℕ) × (reason : Reason) × IsLeastFault Stands k reason
 
 no_table_least : (image : List ℕ) (at j : ℕ) (v : Reason) → HasPointerFaultAt image at j v → fault_order (at + 4) why.NoTable ≤ fault_order j v
 no_table_least image at j why.NoTable h = omega (arith, h.0)
@@ -80,7 +83,7 @@ revision_least image at j why.BadRevision i h = omega (arith, h.0)
 revision_least image at j why.BadDefault i h = omega (arith, h.0)
 revision_least image at j _ i h = absurd h
 
-default_least : (image : List ℕ) (at j : ℕ) (v : Reason) → IsNamedInside image at → slice_index image (at + 9) ≡ 4 → HasPointerFaultAt image at j v → fault_order (at + 11) why.BadDefault ≤ fault_order j v
+default_least : (image : List ℕ) (at j : ℕ) (v : Reason) → IsNamedInside image at → IsKnownRevision (slice_index image (at + 9)) → HasPointerFaultAt image at j v → fault_order (at + 11) why.BadDefault ≤ fault_order j v
 unfolding IsNamedInside
 default_least image at j why.NoTable i r h = absurd ((i h.1).0 h.2)
 default_least image at j why.TableOutside i r h = absurd (omega (arith, (i h.1).1, h.3))
@@ -88,7 +91,7 @@ default_least image at j why.BadRevision i r h = absurd (h.1 r)
 default_least image at j why.BadDefault i r h = omega (arith, h.0)
 default_least image at j _ i r h = absurd h
 
-no_pointer_fault : (image : List ℕ) (at k : ℕ) (v : Reason) → IsNamedInside image at → slice_index image (at + 9) ≡ 4 → default_at image at ≤ 7 → HasPointerFaultAt image at k v → ⊥
+no_pointer_fault : (image : List ℕ) (at k : ℕ) (v : Reason) → IsNamedInside image at → IsKnownRevision (slice_index image (at + 9)) → default_at image at ≤ 7 → HasPointerFaultAt image at k v → ⊥
 unfolding IsNamedInside
 no_pointer_fault image at k why.NoTable i r d h = (i h.1).0 h.2
 no_pointer_fault image at k why.TableOutside i r d h = omega (arith, (i h.1).1, h.3)
@@ -99,29 +102,29 @@ no_pointer_fault image at k _ i r d h = h
 -- the fields of a floating pointer without a fault
 record IsSoundPointer (image : List ℕ) (at : ℕ) : Type 0 where
   named : IsNamedInside image at
-  revision : slice_index image (at + 9) ≡ 4
+  revision : IsKnownRevision (slice_index image (at + 9))
   default : default_at image at ≤ 7
 
-pointer_judged : (image : List ℕ) (at : ℕ) → IsLeast (HasPointerFaultAt image at) ⊎ IsSoundPointer image at
+pointer_judged : (image : List ℕ) (at : ℕ) → HasLeast (HasPointerFaultAt image at) ⊎ IsSoundPointer image at
 unfolding IsNamedInside
 pointer_judged image at = by_default (decided-eq (default_at image at) 0)
   where
-    by_rest : IsNamedInside image at → Decided (slice_index image (at + 9) ≡ 4) → (7 < default_at image at) ⊎ (default_at image at ≤ 7) → IsLeast (HasPointerFaultAt image at) ⊎ IsSoundPointer image at
-    by_rest i (inr n) _ = inl (record { k = at + 9; reason = why.BadRevision; stands = (refl, n); least = λ j v h. revision_least image at j v i h })
-    by_rest i (inl r) (inl d) = inl (record { k = at + 11; reason = why.BadDefault; stands = (refl, d); least = λ j v h. default_least image at j v i r h })
+    by_rest : IsNamedInside image at → Decided (IsKnownRevision (slice_index image (at + 9))) → (7 < default_at image at) ⊎ (default_at image at ≤ 7) → HasLeast (HasPointerFaultAt image at) ⊎ IsSoundPointer image at
+    by_rest i (inr n) _ = inl ((at + 9, why.BadRevision, record { stands = (refl, n); least = λ j v h. revision_least image at j v i h }))
+    by_rest i (inl r) (inl d) = inl ((at + 11, why.BadDefault, record { stands = (refl, d); least = λ j v h. default_least image at j v i r h }))
     by_rest i (inl r) (inr d) = inr (record { named = i; revision = r; default = d })
 
-    by_room : default_at image at ≡ 0 → address_at image at ≢ 0 → (length image < address_at image at + 44) ⊎ (address_at image at + 44 ≤ length image) → IsLeast (HasPointerFaultAt image at) ⊎ IsSoundPointer image at
-    by_room z n (inl out) = inl (record { k = at + 4; reason = why.TableOutside; stands = (refl, z, n, out); least = λ j v h. table_outside_least image at j v n h })
-    by_room z n (inr inside) = by_rest (λ e. (n, inside)) (decided-eq (slice_index image (at + 9)) 4) (cases_lt 7 (default_at image at))
+    by_room : default_at image at ≡ 0 → address_at image at ≢ 0 → (length image < address_at image at + 44) ⊎ (address_at image at + 44 ≤ length image) → HasLeast (HasPointerFaultAt image at) ⊎ IsSoundPointer image at
+    by_room z n (inl out) = inl ((at + 4, why.TableOutside, record { stands = (refl, z, n, out); least = λ j v h. table_outside_least image at j v n h }))
+    by_room z n (inr inside) = by_rest (λ e. (n, inside)) (known_decided (slice_index image (at + 9))) (cases_lt 7 (default_at image at))
 
-    by_address : default_at image at ≡ 0 → Decided (address_at image at ≡ 0) → IsLeast (HasPointerFaultAt image at) ⊎ IsSoundPointer image at
-    by_address z (inl e) = inl (record { k = at + 4; reason = why.NoTable; stands = (refl, z, e); least = λ j v h. no_table_least image at j v h })
+    by_address : default_at image at ≡ 0 → Decided (address_at image at ≡ 0) → HasLeast (HasPointerFaultAt image at) ⊎ IsSoundPointer image at
+    by_address z (inl e) = inl ((at + 4, why.NoTable, record { stands = (refl, z, e); least = λ j v h. no_table_least image at j v h }))
     by_address z (inr n) = by_room z n (cases_lt (length image) (address_at image at + 44))
 
-    by_default : Decided (default_at image at ≡ 0) → IsLeast (HasPointerFaultAt image at) ⊎ IsSoundPointer image at
+    by_default : Decided (default_at image at ≡ 0) → HasLeast (HasPointerFaultAt image at) ⊎ IsSoundPointer image at
     by_default (inl z) = by_address z (decided-eq (address_at image at) 0)
-    by_default (inr n) = by_rest (λ e. absurd (n e)) (decided-eq (slice_index image (at + 9)) 4) (cases_lt 7 (default_at image at))
+    by_default (inr n) = by_rest (λ e. absurd (n e)) (known_decided (slice_index image (at + 9))) (cases_lt 7 (default_at image at))
 
 -- the rows of the table before which nothing is refused
 signature_least : (image : List ℕ) (at j : ℕ) (v : Reason) → HasTableFaultAt image at j v → fault_order at why.BadSignature ≤ fault_order j v
@@ -147,7 +150,7 @@ header_revision_least image at j v s b h = omega (arith, HasTableFaultAt-offset 
 record PassesRevision (image : List ℕ) (at : ℕ) : Type 0 where
   signature : part image at 4 ≡ codes "PCMP"
   inside : HasBaseInside image at
-  revision : slice_index image (at + 6) ≡ 4
+  revision : IsKnownRevision (revision_at image at)
 
 sum_least : (image : List ℕ) (at j : ℕ) (v : Reason) → PassesRevision image at → HasTableFaultAt image at j v → fault_order (at + 7) why.BadSum ≤ fault_order j v
 sum_least image at j why.BadSignature p h = absurd (h.1 p.signature)
@@ -197,25 +200,26 @@ ext_fault_stands image at k _ i h = absurd h
 
 -- the table at a place, or the first of its faults
 IsJudgedTable : List ℕ → ℕ → Type 0
-IsJudgedTable image at = IsLeast (HasTableFaultAt image at) ⊎ ((t : Table) × IsConfigurationTable t image at)
+IsJudgedTable image at = HasLeast (HasTableFaultAt image at) ⊎ ((t : Table) × IsConfigurationTable t image at)
 
 table_of_parts : (image : List ℕ) (at : ℕ) (es : List Base) (xs : List Ext) → HasSoundHeader image at → AreBaseEntries es image (at + 44) (base_end image at) → length es ≡ count_at image at
     → AreExtEntries xs image (base_end image at) (ext_end image at) → (t : Table) × IsConfigurationTable t image at
 table_of_parts image at es xs s tiles count exts = (
   record {
-    revision = slice_index image (at + 6);
+    revision = revision_at image at;
     oem = part image (at + 8) 8;
     product = part image (at + 16) 12;
     oem_table = number_at 4 image (at + 28);
     oem_size = number_at 2 image (at + 32);
     local_address = number_at 4 image (at + 36);
-    reserved = slice_index image (at + 43);
+    reserved = reserved_at image at;
+    old = old_at image at;
     base = es;
     ext = xs;
   },
   record {
     inside = s.inside;
-    header = record { signature = s.signature; revision = refl; oem = refl; product = refl; oem_table = refl; oem_size = refl; local_address = refl; reserved = refl };
+    header = record { signature = s.signature; revision = refl; oem = refl; product = refl; oem_table = refl; oem_size = refl; local_address = refl; reserved = refl; old = refl };
     revision = s.revision;
     checksum = s.checksum;
     count = count;
@@ -230,59 +234,60 @@ judged_behind : (image : List ℕ) (at : ℕ) → PassesRevision image at → Ha
 unfolding IsJudgedTable
 judged_behind image at p c n go = by_room (cases_lt (length image) (ext_end image at))
   where
-    by_sum : HasExtInside image at → Decided (HasExtChecksum image at) → IsLeast (HasTableFaultAt image at) ⊎ ((t : Table) × IsConfigurationTable t image at)
-    by_sum e (inl s) = go (record { signature = p.signature; inside = e; revision = p.revision; checksum = c; ext_checksum = s })
-    by_sum e (inr x) = inl (record { k = at + 42; reason = why.BadExtSum; stands = (refl, e, x); least = λ j v h. ext_sum_least image at j v p c n e h })
+    by_sum : HasExtInside image at → Decided (revision_at image at ≡ 1) → Decided (SumsWithExtChecksum image at) → HasLeast (HasTableFaultAt image at) ⊎ ((t : Table) × IsConfigurationTable t image at)
+    by_sum e (inl one) _ = go (record { signature = p.signature; inside = e; revision = p.revision; checksum = c; ext_checksum = λ new. absurd (new one) })
+    by_sum e (inr new) (inl s) = go (record { signature = p.signature; inside = e; revision = p.revision; checksum = c; ext_checksum = λ _. s })
+    by_sum e (inr new) (inr x) = inl ((at + 42, why.BadExtSum, record { stands = (refl, e, new, x); least = λ j v h. ext_sum_least image at j v p c n e h }))
 
-    by_room : (length image < ext_end image at) ⊎ (ext_end image at ≤ length image) → IsLeast (HasTableFaultAt image at) ⊎ ((t : Table) × IsConfigurationTable t image at)
-    by_room (inl out) = inl (record { k = at + 40; reason = why.ExtOutside; stands = (refl, p.inside, out); least = λ j v h. ext_outside_least image at j v p c n h })
-    by_room (inr inside) = by_sum (record { base = p.inside; inside = inside }) (decided-eq (sum (slice_index image (at + 42) ∷ part image (base_end image at) (ext_length_at image at)) % 256) 0)
+    by_room : (length image < ext_end image at) ⊎ (ext_end image at ≤ length image) → HasLeast (HasTableFaultAt image at) ⊎ ((t : Table) × IsConfigurationTable t image at)
+    by_room (inl out) = inl ((at + 40, why.ExtOutside, record { stands = (refl, p.inside, out); least = λ j v h. ext_outside_least image at j v p c n h }))
+    by_room (inr inside) = by_sum (record { base = p.inside; inside = inside }) (decided-eq (revision_at image at) 1) (decided-eq (sum (slice_index image (at + 42) ∷ part image (base_end image at) (ext_length_at image at)) % 256) 0)
 
 -- the rows from the entries on
 judged_entries : (image : List ℕ) (at : ℕ) → PassesRevision image at → HasChecksum image at → IsJudgedTable image at
 unfolding IsJudgedTable
 judged_entries image at p c = by_entries (AreBaseEntries-judged image (at + 44) (base_end image at) (omega (arith, p.inside.header)))
   where
-    by_exts : (es : List Base) → AreBaseEntries es image (at + 44) (base_end image at) → length es ≡ count_at image at → HasSoundHeader image at → AreJudgedExt image (base_end image at) (ext_end image at) → IsLeast (HasTableFaultAt image at) ⊎ ((t : Table) × IsConfigurationTable t image at)
+    by_exts : (es : List Base) → AreBaseEntries es image (at + 44) (base_end image at) → length es ≡ count_at image at → HasSoundHeader image at → AreJudgedExt image (base_end image at) (ext_end image at) → HasLeast (HasTableFaultAt image at) ⊎ ((t : Table) × IsConfigurationTable t image at)
     by_exts es tiles count s (inl xs) = inr (table_of_parts image at es xs.0 s tiles count xs.1)
-    by_exts es tiles count s (inr f) = inl (record { k = f.0; reason = f.1; stands = ext_fault_stands image at f.0 f.1 s.inside f.2; least = IsExtFaultIn-first image at f.0 f.1 es s tiles count f.2 })
+    by_exts es tiles count s (inr f) = inl ((f.0, f.1, record { stands = ext_fault_stands image at f.0 f.1 s.inside f.2; least = IsExtFaultIn-first image at f.0 f.1 es s tiles count f.2 }))
 
-    by_count : (es : List Base) → AreBaseEntries es image (at + 44) (base_end image at) → Decided (length es ≡ count_at image at) → IsLeast (HasTableFaultAt image at) ⊎ ((t : Table) × IsConfigurationTable t image at)
+    by_count : (es : List Base) → AreBaseEntries es image (at + 44) (base_end image at) → Decided (length es ≡ count_at image at) → HasLeast (HasTableFaultAt image at) ⊎ ((t : Table) × IsConfigurationTable t image at)
     by_count es tiles (inl count) =
         judged_behind image at p c (λ k h. h.4 (ap length (AreBaseEntries-unique h.2 es image (at + 44) (base_end image at) h.3 tiles) ∙ count))
         (λ s. by_exts es tiles count s (AreExtEntries-judged image (base_end image at) (ext_end image at) s.inside.inside (omega arith)))
-    by_count es tiles (inr n) = inl (record { k = at + 34; reason = why.BadCount; stands = (refl, p.inside, es, tiles, n); least = λ j v h. count_least image at j v p c h })
+    by_count es tiles (inr n) = inl ((at + 34, why.BadCount, record { stands = (refl, p.inside, es, tiles, n); least = λ j v h. count_least image at j v p c h }))
 
-    by_entries : AreJudgedBase image (at + 44) (base_end image at) → IsLeast (HasTableFaultAt image at) ⊎ ((t : Table) × IsConfigurationTable t image at)
+    by_entries : AreJudgedBase image (at + 44) (base_end image at) → HasLeast (HasTableFaultAt image at) ⊎ ((t : Table) × IsConfigurationTable t image at)
     by_entries (inl es) = by_count es.0 es.1 (decided-eq (length es.0) (count_at image at))
     by_entries (inr f) =
         judged_behind image at p c (λ k h. IsBaseFaultIn-no_entries h.2 image (at + 44) (base_end image at) f.0 f.1 f.2 h.3)
-        (λ s. inl (record { k = f.0; reason = f.1; stands = base_fault_stands image at f.0 f.1 p.inside f.2; least = IsBaseFaultIn-first image at f.0 f.1 s f.2 }))
+        (λ s. inl ((f.0, f.1, record { stands = base_fault_stands image at f.0 f.1 p.inside f.2; least = IsBaseFaultIn-first image at f.0 f.1 s f.2 })))
 
 -- a table or its first fault
 table_judged : (image : List ℕ) (at : ℕ) → IsJudgedTable image at
 unfolding IsJudgedTable
 table_judged image at = by_signature (decided-list (part image at 4) (codes "PCMP"))
   where
-    by_sum : PassesRevision image at → Decided (HasChecksum image at) → IsLeast (HasTableFaultAt image at) ⊎ ((t : Table) × IsConfigurationTable t image at)
+    by_sum : PassesRevision image at → Decided (HasChecksum image at) → HasLeast (HasTableFaultAt image at) ⊎ ((t : Table) × IsConfigurationTable t image at)
     by_sum p (inl c) = judged_entries image at p c
-    by_sum p (inr n) = inl (record { k = at + 7; reason = why.BadSum; stands = (refl, p.inside, n); least = λ j v h. sum_least image at j v p h })
+    by_sum p (inr n) = inl ((at + 7, why.BadSum, record { stands = (refl, p.inside, n); least = λ j v h. sum_least image at j v p h }))
 
-    by_revision : part image at 4 ≡ codes "PCMP" → HasBaseInside image at → Decided (slice_index image (at + 6) ≡ 4) → IsLeast (HasTableFaultAt image at) ⊎ ((t : Table) × IsConfigurationTable t image at)
+    by_revision : part image at 4 ≡ codes "PCMP" → HasBaseInside image at → Decided (IsKnownRevision (revision_at image at)) → HasLeast (HasTableFaultAt image at) ⊎ ((t : Table) × IsConfigurationTable t image at)
     by_revision s b (inl r) = by_sum (record { signature = s; inside = b; revision = r }) (decided-eq (sum (part image at (base_length_at image at)) % 256) 0)
-    by_revision s b (inr n) = inl (record { k = at + 6; reason = why.BadRevision; stands = (refl, n); least = λ j v h. header_revision_least image at j v s b h })
+    by_revision s b (inr n) = inl ((at + 6, why.BadRevision, record { stands = (refl, n); least = λ j v h. header_revision_least image at j v s b h }))
 
-    by_room : part image at 4 ≡ codes "PCMP" → 44 ≤ base_length_at image at → (length image < base_end image at) ⊎ (base_end image at ≤ length image) → IsLeast (HasTableFaultAt image at) ⊎ ((t : Table) × IsConfigurationTable t image at)
-    by_room s b (inl out) = inl (record { k = at + 4; reason = why.LengthOutside; stands = (refl, b, out); least = λ j v h. outside_least image at j v s b h })
-    by_room s b (inr i) = by_revision s (record { header = b; inside = i }) (decided-eq (slice_index image (at + 6)) 4)
+    by_room : part image at 4 ≡ codes "PCMP" → 44 ≤ base_length_at image at → (length image < base_end image at) ⊎ (base_end image at ≤ length image) → HasLeast (HasTableFaultAt image at) ⊎ ((t : Table) × IsConfigurationTable t image at)
+    by_room s b (inl out) = inl ((at + 4, why.LengthOutside, record { stands = (refl, b, out); least = λ j v h. outside_least image at j v s b h }))
+    by_room s b (inr i) = by_revision s (record { header = b; inside = i }) (known_decided (revision_at image at))
 
-    by_length : part image at 4 ≡ codes "PCMP" → (base_length_at image at < 44) ⊎ (44 ≤ base_length_at image at) → IsLeast (HasTableFaultAt image at) ⊎ ((t : Table) × IsConfigurationTable t image at)
-    by_length s (inl short) = inl (record { k = at + 4; reason = why.ShortLength; stands = (refl, short); least = λ j v h. short_least image at j v s h })
+    by_length : part image at 4 ≡ codes "PCMP" → (base_length_at image at < 44) ⊎ (44 ≤ base_length_at image at) → HasLeast (HasTableFaultAt image at) ⊎ ((t : Table) × IsConfigurationTable t image at)
+    by_length s (inl short) = inl ((at + 4, why.ShortLength, record { stands = (refl, short); least = λ j v h. short_least image at j v s h }))
     by_length s (inr b) = by_room s b (cases_lt (length image) (base_end image at))
 
-    by_signature : Decided (part image at 4 ≡ codes "PCMP") → IsLeast (HasTableFaultAt image at) ⊎ ((t : Table) × IsConfigurationTable t image at)
+    by_signature : Decided (part image at 4 ≡ codes "PCMP") → HasLeast (HasTableFaultAt image at) ⊎ ((t : Table) × IsConfigurationTable t image at)
     by_signature (inl s) = by_length s (cases_lt (base_length_at image at) 44)
-    by_signature (inr n) = inl (record { k = at; reason = why.BadSignature; stands = (refl, n); least = λ j v h. signature_least image at j v h })
+    by_signature (inr n) = inl ((at, why.BadSignature, record { stands = (refl, n); least = λ j v h. signature_least image at j v h }))
 
 -- an image with a first floating pointer describes tables or has a first fault
 module _ (image : List ℕ) (at : ℕ) (first : IsFirstPointerAt image at) (p : Pointer) (there : IsFloatingPointer p (part image at 16)) (s : IsSoundPointer image at) where
@@ -295,7 +300,7 @@ module _ (image : List ℕ) (at : ℕ) (first : IsFirstPointerAt image at) (p : 
       let some : 1 ≤ default_number p = omega (arith, n) in
       let low : default_number p ≤ 7 = omega (arith, s.default) in (
         record { at = at; pointer = p; body = body.Default (default_number p) },
-        record { first = first; tables_there = record { pointer = there; revision = fields.revision ∙ s.revision; body = (refl, some, low) } },
+        record { first = first; tables_there = record { pointer = there; revision = subst (λ (r : ℕ). IsKnownRevision r) (sym fields.revision) s.revision; body = (refl, some, low) } },
       )
 
   table_described : default_at image at ≡ 0 → (t : Table) → IsConfigurationTable t image (address_at image at) → IsDescribed image
@@ -306,15 +311,15 @@ module _ (image : List ℕ) (at : ℕ) (first : IsFirstPointerAt image at) (p : 
       first = first;
       tables_there = record {
         pointer = there;
-        revision = fields.revision ∙ s.revision;
+        revision = subst (λ (r : ℕ). IsKnownRevision r) (sym fields.revision) s.revision;
         body = (fields.default ∙ z, λ e. (s.named z).0 (sym fields.address ∙ e), subst (λ x. IsConfigurationTable t image x) (sym fields.address) c);
       };
     },
   )
 
-  table_refused : default_at image at ≡ 0 → IsLeast (HasTableFaultAt image (address_at image at)) → HasFirstFault image
+  table_refused : default_at image at ≡ 0 → HasLeast (HasTableFaultAt image (address_at image at)) → HasFirstFault image
   table_refused z l =
-      (l.k, l.reason, IsFirstFault-of_table image at l.k l.reason first (λ k v h. no_pointer_fault image at k v s.named s.revision s.default h) z l.stands l.least)
+      (l.0, l.1, IsFirstFault-of_table image at l.0 l.1 first (λ k v h. no_pointer_fault image at k v s.named s.revision s.default h) z l.2.stands l.2.least)
 
   body_judged : Decided (default_at image at ≡ 0) → IsJudgedTable image (address_at image at) → IsDescribed image ⊎ HasFirstFault image
   unfolding IsJudgedTable
@@ -326,8 +331,8 @@ module _ (image : List ℕ) (at : ℕ) (first : IsFirstPointerAt image at) (p : 
 pub image-judged : (image : List ℕ) → HasNoPointer image ⊎ (IsDescribed image ⊎ HasFirstFault image)
 image-judged image = by_search (first_decided (HasPointerAt image) (λ at. pointer_decided (part image at 16)) (search_places image))
   where
-    by_pointer : (at : ℕ) → IsFirstPointerAt image at → IsLeast (HasPointerFaultAt image at) ⊎ IsSoundPointer image at → IsDescribed image ⊎ HasFirstFault image
-    by_pointer at f (inl l) = inr (l.k, l.reason, IsFirstFault-of_pointer image at l.k l.reason f l.stands l.least)
+    by_pointer : (at : ℕ) → IsFirstPointerAt image at → HasLeast (HasPointerFaultAt image at) ⊎ IsSoundPointer image at → IsDescribed image ⊎ HasFirstFault image
+    by_pointer at f (inl l) = inr (l.0, l.1, IsFirstFault-of_pointer image at l.0 l.1 f l.2.stands l.2.least)
     by_pointer at f (inr s) = body_judged image at f f.holds.0 f.holds.1 s (decided-eq (default_at image at) 0) (table_judged image (address_at image at))
 
     by_search : HasNoPointer image ⊎ ((at : ℕ) × IsFirstPointerAt image at) → HasNoPointer image ⊎ (IsDescribed image ⊎ HasFirstFault image)

@@ -2,6 +2,7 @@
 --     one_processor, one_processor_bytes       a table with one processor, and its 64 bytes
 --     small_pointer, small_pointer_bytes       the floating pointer that names it in the small image
 --     small_image                              1,360 bytes: the EBDA segment 0050h, the pointer at 500h, the table at 510h
+--     old_image, old_tables                    the same at revision 1, with 11h 22h 33h 44h in bytes 40 to 43 of the header
 --     image_with ebda pointer table            the same with another segment, other bytes at 500h and other bytes from 510h on
 --     placed at address                        a floating pointer at a place that names a block of 64 bytes at an address
 --     board_tables                             a usual board: two processors, a PCI and an ISA bus, an I/O APIC, 19 interrupts
@@ -25,6 +26,7 @@ table_of entries = record {
   oem_size = 0;
   local_address = 0xFEE00000;
   reserved = 0;
+  old = replicate 4 0;
   base = entries;
   ext = [];
 }
@@ -38,13 +40,17 @@ processor id version flags signature features =
 abbrev pub one_processor : Table
 one_processor = table_of (processor 0 0x10 3 0x520 0x1BF ∷ [])
 
--- the header of its bytes with these values of base length, checksum, entry count, extended length and extended checksum
-abbrev pub header_with : ℕ → ℕ → ℕ → ℕ → ℕ → List ℕ
-header_with base_length checksum count ext_length ext_checksum =
-    0x50 ∷ 0x43 ∷ 0x4D ∷ 0x50 ∷ base_length ∷ 0x00 ∷ 0x04 ∷ checksum
+-- the header of its bytes with these values of revision, base length, checksum, entry count and bytes 40 to 43
+abbrev pub header_of : ℕ → ℕ → ℕ → ℕ → List ℕ → List ℕ
+header_of revision base_length checksum count end =
+    0x50 ∷ 0x43 ∷ 0x4D ∷ 0x50 ∷ base_length ∷ 0x00 ∷ revision ∷ checksum
     ∷ 0x4D ∷ 0x50 ∷ 0x54 ∷ 0x41 ∷ 0x42 ∷ 0x20 ∷ 0x20 ∷ 0x20
     ∷ 0x42 ∷ 0x4F ∷ 0x41 ∷ 0x52 ∷ 0x44 ∷ 0x20 ∷ 0x20 ∷ 0x20 ∷ 0x20 ∷ 0x20 ∷ 0x20 ∷ 0x20
-    ∷ 0x00 ∷ 0x00 ∷ 0x00 ∷ 0x00 ∷ 0x00 ∷ 0x00 ∷ count ∷ 0x00 ∷ 0x00 ∷ 0x00 ∷ 0xE0 ∷ 0xFE ∷ ext_length ∷ 0x00 ∷ ext_checksum ∷ 0x00 ∷ []
+    ∷ 0x00 ∷ 0x00 ∷ 0x00 ∷ 0x00 ∷ 0x00 ∷ 0x00 ∷ count ∷ 0x00 ∷ 0x00 ∷ 0x00 ∷ 0xE0 ∷ 0xFE ∷ end
+
+-- the header of revision 4 with these values of base length, checksum, entry count, extended length and extended checksum
+abbrev pub header_with : ℕ → ℕ → ℕ → ℕ → ℕ → List ℕ
+header_with base_length checksum count ext_length ext_checksum = header_of 4 base_length checksum count (ext_length ∷ 0x00 ∷ ext_checksum ∷ 0x00 ∷ [])
 
 -- its entry with this type byte
 abbrev pub entry_with : ℕ → List ℕ
@@ -60,10 +66,14 @@ one_processor_bytes = header_with 0x40 0x99 1 0 0 ++ entry_with 0
 abbrev pub small_pointer : Pointer
 small_pointer = record { address = 0x510; revision = 4; features = replicate 5 0 }
 
--- a floating pointer's bytes with these values of the address's low word, checksum and feature byte 1
+-- a floating pointer's bytes with these values of the address's low word, revision, checksum and feature byte 1
+abbrev pub pointer_bytes_of : ℕ → ℕ → ℕ → ℕ → List ℕ
+pointer_bytes_of address revision checksum feature =
+    0x5F ∷ 0x4D ∷ 0x50 ∷ 0x5F ∷ (to_le_bytes w16 address ++ 0x00 ∷ 0x00 ∷ 0x01 ∷ revision ∷ checksum ∷ feature ∷ 0x00 ∷ 0x00 ∷ 0x00 ∷ 0x00 ∷ [])
+
+-- those of revision 4
 abbrev pub pointer_bytes_with : ℕ → ℕ → ℕ → List ℕ
-pointer_bytes_with address checksum feature =
-    0x5F ∷ 0x4D ∷ 0x50 ∷ 0x5F ∷ (to_le_bytes w16 address ++ 0x00 ∷ 0x00 ∷ 0x01 ∷ 0x04 ∷ checksum ∷ feature ∷ 0x00 ∷ 0x00 ∷ 0x00 ∷ 0x00 ∷ [])
+pointer_bytes_with address checksum feature = pointer_bytes_of address 4 checksum feature
 
 -- its sixteen bytes
 abbrev pub small_pointer_bytes : List ℕ
@@ -92,6 +102,26 @@ extended_tables = record {
   pointer = small_pointer;
   body = body.Listed (record one_processor { ext = ext.Opaque (record { kind = 0xC8; rest = [] }) ∷ [] });
 }
+
+-- the table with one processor at revision 1, with 11h 22h 33h 44h in bytes 40 to 43
+abbrev pub old_table : Table
+old_table = record one_processor { revision = 1; old = 0x11 ∷ 0x22 ∷ 0x33 ∷ 0x44 ∷ [] }
+
+-- its 64 bytes
+abbrev pub old_table_bytes : List ℕ
+old_table_bytes = header_of 1 0x40 0xF2 1 (0x11 ∷ 0x22 ∷ 0x33 ∷ 0x44 ∷ []) ++ entry_with 0
+
+-- a floating pointer of revision 1 that names it
+abbrev pub old_pointer : Pointer
+old_pointer = record small_pointer { revision = 1 }
+
+-- the small image with both; as lengths, bytes 40 and 41 would pass it
+abbrev pub old_image : List ℕ
+old_image = image_with 0x50 (pointer_bytes_of 0x510 1 0x8E 0) old_table_bytes
+
+-- what it describes
+abbrev pub old_tables : Tables
+old_tables = record { at = 0x500; pointer = old_pointer; body = body.Listed old_table }
 
 -- the image of a default configuration of this number
 abbrev pub default_image : ℕ → ℕ → List ℕ

@@ -1,15 +1,16 @@
 //! Worked examples of the definitions: what they say of small tables and images whose bytes are written
 //! out by hand. An example is the contract of a function that does nothing.
 
-ghost use Rattle.std.specs.Prelude.{◌≡◌, ℕ, ◌+◌, [], ◌∷◌, ◌++◌, length};
+ghost use Rattle.std.specs.Prelude.{◌≡◌, ℕ, ◌+◌, [], ◌∷◌, ◌++◌, length, replicate};
+ghost use Rattle.mpt_spec.specs.declared.tables.Body.TheVariants as body;
 ghost use Rattle.std.specs.List.{flat_map};
 ghost use Rattle.mpt_base.specs.declared.fault.Reason.TheVariants as why;
 ghost use Rattle.mpt_spec.specs.Search.{areas_of, places_in};
 ghost use Rattle.mpt_spec.specs.Table.{Describes};
 ghost use Rattle.mpt_spec.specs.Faults.{IsFirstFault};
-ghost use Rattle.mpt_spec.specs.Canonical.{IsCanonical, FitsInImage, canonical_of, block_size};
+ghost use Rattle.mpt_spec.specs.Canonical.{IsCanonical, FitsInImage, canonical_of, raised_of, block_size};
 ghost use Rattle.mpt_spec.specs.Image.{table_bytes, body_bytes, pointer_bytes};
-ghost use Rattle.mpt_laws.specs.Examples.{one_processor, one_processor_bytes, header_with, entry_with, small_pointer, small_pointer_bytes, small_image_with, small_image, small_tables, extended_tables, default_image, default_tables, placed, second_place_image, second_place_tables, board_tables, board_pointer_bytes};
+ghost use Rattle.mpt_laws.specs.Examples.{one_processor, one_processor_bytes, header_of, header_with, entry_with, old_table, old_table_bytes, old_image, old_tables, small_pointer, small_pointer_bytes, small_image_with, small_image, small_tables, extended_tables, default_image, default_tables, placed, second_place_image, second_place_tables, board_tables, board_pointer_bytes};
 
 /// A table of one processor and floating pointers to it at 510h and F0010h have the bytes that the figures of chapter 4 give.
 pub fn bytes_of_one_processor()
@@ -22,6 +23,16 @@ pub fn bytes_of_one_processor()
 pub fn small_image_describes_its_table()
     ensures size { length small_image ≡ 1360 }
     ensures describes { Describes small_image small_tables }
+{}
+
+/// An image with a floating pointer and a table of revision 1 describes them, with bytes 40 to 43 as they
+/// are, though as lengths they would pass the image. Raised, the tables are those of the small image;
+/// their canonical form has zero there.
+pub fn tables_of_revision_1()
+    ensures bytes { table_bytes old_table ≡ old_table_bytes }
+    ensures describes { Describes old_image old_tables }
+    ensures raised { raised_of old_tables ≡ small_tables }
+    ensures canonical { canonical_of old_tables ≡ record old_tables { body = body.Listed (record old_table { old = replicate 4 0 }) } }
 {}
 
 /// The tables of a usual board take 260 bytes, are canonical and have a place in an image of 1 MiB.
@@ -82,9 +93,11 @@ pub fn faults_of_the_pointer()
     ensures no_table { IsFirstFault (default_image 0 0xA0) 0x504 why.NoTable }
 {}
 
-/// A base length of 43, whose sum isn't looked at; a wrong checksum; an entry count of 2 for one entry.
+/// A base length of 43, whose sum isn't looked at; a revision of 2; a wrong checksum; an entry count of 2
+/// for one entry.
 pub fn faults_of_the_header()
     ensures short_length { IsFirstFault (small_image_with (header_with 43 0x99 1 0 0 ++ entry_with 0)) 0x514 why.ShortLength }
+    ensures unknown_revision { IsFirstFault (small_image_with (header_of 2 0x40 0x9B 1 (0 ∷ 0 ∷ 0 ∷ 0 ∷ []) ++ entry_with 0)) 0x516 why.BadRevision }
     ensures bad_sum { IsFirstFault (small_image_with (header_with 0x40 0x9A 1 0 0 ++ entry_with 0)) 0x517 why.BadSum }
     ensures bad_count { IsFirstFault (small_image_with (header_with 0x40 0x98 2 0 0 ++ entry_with 0)) 0x532 why.BadCount }
 {}

@@ -1,7 +1,7 @@
 //! Laws of the definitions, in the words of MultiProcessor Specification 1.4, chapter 4. A law is the
 //! contract of a function that does nothing: it holds of every area, image and table.
 
-ghost use Rattle.std.specs.Prelude.{◌≡◌, ◌+◌, ◌≤◌, ◌<◌, ◌^◌, ◌↔◌, ◌⊎◌, ℕ, List, ◌++◌, length};
+ghost use Rattle.std.specs.Prelude.{◌≡◌, ◌≢◌, ◌+◌, ◌≤◌, ◌<◌, ◌^◌, ◌↔◌, ◌⊎◌, ℕ, List, ◌++◌, length, slice_index};
 ghost use Rattle.std.specs.List.{Contains};
 ghost use Rattle.std.specs.Int.{to_le_bytes, w16, w32, w64};
 ghost use Rattle.mpt_base.specs.Bytes.{number_at, part};
@@ -17,13 +17,13 @@ ghost use Rattle.mpt_spec.specs.Pointer.{IsFloatingPointer};
 ghost use Rattle.mpt_spec.specs.Search.{places_in, IsFirstPointerAt, HasNoPointer};
 ghost use Rattle.mpt_spec.specs.Entries.{IsBaseEntryAt, base_length};
 ghost use Rattle.mpt_spec.specs.Extended.{IsExtEntryAt, ext_length};
-ghost use Rattle.mpt_spec.specs.Canonical.{IsLawfulExt, IsWellFormedTable, IsWellFormed, FitsInImage, IsCanonical, canonical_of};
+ghost use Rattle.mpt_spec.specs.Canonical.{IsLawfulExt, IsWellFormedTable, IsWellFormed, FitsInImage, IsCanonical, canonical_of, raised_of, block_size};
 ghost use Rattle.mpt_spec.specs.Table.{IsConfigurationTable, Describes};
-ghost use Rattle.mpt_spec.specs.Faults.{HasFaultAt, IsFirstFault};
+ghost use Rattle.mpt_spec.specs.Faults.{HasTableFaultAt, HasFaultAt, IsFirstFault};
 ghost use Rattle.mpt_spec.specs.Image.{base_bytes, ext_bytes, table_bytes, pointer_bytes, image_of};
 ghost use Rattle.mpt_base.specs.Bytes.{IsByteList};
 ghost use Rattle.mpt_spec.specs.Values.{IsBaseValue, IsExtValue, IsPointerValue, IsTableValue, IsTablesValue};
-ghost use Rattle.mpt_laws.specs.Laws.{IsPlaceOf, IsDescribed, HasFirstFault};
+ghost use Rattle.mpt_laws.specs.Laws.{IsPlaceOf, HasEndOf1_4, HasEndOf1_1, IsOfExtPart, IsDescribed, HasFirstFault};
 
 /// The places of an area are the multiples of 16 in it that have 16 bytes before its end.
 pub fn places_of_an_area()
@@ -56,10 +56,28 @@ pub fn written_entry_is_there()
     ensures ext { (e : Ext) (before after : List ℕ) (at : ℕ) → IsExtValue e → IsLawfulExt e → length before ≡ at → IsExtEntryAt e (before ++ (ext_bytes e ++ after)) at }
 {}
 
-/// The bytes that are written for a table of revision 4, whose parts have lengths that 16 bits can say,
+/// The bytes that are written for a table with the fields of its revision, 1 or 4, whose parts have lengths that 16 bits can say,
 /// are that table, wherever they stand.
 pub fn written_table_is_there()
     ensures { (t : Table) (before after : List ℕ) (at : ℕ) → IsTableValue t → IsWellFormedTable t → length before ≡ at → IsConfigurationTable t (before ++ (table_bytes t ++ after)) at }
+{}
+
+/// A table is one of revision 4, or one of revision 1, which keeps bytes 40 to 43 and has no extended
+/// entries.
+pub fn table_has_the_end_of_its_revision()
+    ensures { (t : Table) (image : List ℕ) (at : ℕ) → IsConfigurationTable t image at → HasEndOf1_4 t image at ⊎ HasEndOf1_1 t image at }
+{}
+
+/// The bytes that are written for a table of revision 1 have its bytes 40 to 43, those of the image in
+/// which it stands.
+pub fn table_of_revision_1_keeps_its_old_bytes()
+    ensures kept { (t : Table) → IsTableValue t → IsWellFormedTable t → t.revision ≡ 1 → part (table_bytes t) 40 4 ≡ t.old }
+    ensures back { (t : Table) (image : List ℕ) (at : ℕ) → IsByteList image → IsConfigurationTable t image at → t.revision ≡ 1 → part (table_bytes t) 40 4 ≡ part image (at + 40) 4 }
+{}
+
+/// At revision 1 nothing of the extended part is refused.
+pub fn faults_of_the_extended_part()
+    ensures { (image : List ℕ) (at k : ℕ) (why : Reason) → IsOfExtPart why → HasTableFaultAt image at k why → slice_index image (at + 6) ≢ 1 }
 {}
 
 /// The bytes that are written for a floating pointer are that floating pointer.
@@ -126,4 +144,15 @@ pub fn canonical_form_is_canonical()
     ensures unchanged { (tables : Tables) → IsTablesValue tables → IsCanonical tables → canonical_of tables ≡ tables }
     ensures values { (tables : Tables) → IsTablesValue tables → IsTablesValue (canonical_of tables) }
     ensures fits { (tables : Tables) → FitsInImage (canonical_of tables) ↔ FitsInImage tables }
+{}
+
+/// Raised tables have both revisions 4, and are as raised as they can be. Well formed tables are so when
+/// they are raised, and have a place in an image exactly where the raised ones have; their block has as
+/// many bytes.
+pub fn raised_tables_are_raised()
+    ensures twice { (tables : Tables) → raised_of (raised_of tables) ≡ raised_of tables }
+    ensures well_formed { (tables : Tables) → IsWellFormed tables → IsWellFormed (raised_of tables) }
+    ensures fits { (tables : Tables) → IsWellFormed tables → FitsInImage (raised_of tables) ↔ FitsInImage tables }
+    ensures values { (tables : Tables) → IsTablesValue tables → IsTablesValue (raised_of tables) }
+    ensures size { (tables : Tables) → block_size (raised_of tables).body ≡ block_size tables.body }
 {}

@@ -127,6 +127,13 @@ module _ {A : Type 0} {t : A → List ℕ} {V : A → Type 0} {r : List ℕ → 
         ((k.0.0, sym value, p.0), p.1 ∙ ap (λ x. x ++ rest) (sym (same k.0.0) ∙ ap u value));
   }
 
+  -- the same texts, said in another way
+  pub text-exact : (u : A → List ℕ) → ((a : A) → V a → u a ≡ t a) → IsExact u V r
+  text-exact u same = record {
+    again = λ a rest v. ap (λ x. r (x ++ rest)) (same a v) ∙ f.again a rest v;
+    takes = λ line a rest h. let p = f.takes line a rest h in (p.0, p.1 ∙ ap (λ x. x ++ rest) (sym (same a p.0)));
+  }
+
   pub value-exact : (W : A → Type 0) → ((a : A) → V a → W a) → ((a : A) → W a → V a) → IsExact t W r
   value-exact W to from = record {
     again = λ a rest w. f.again a rest (from a w);

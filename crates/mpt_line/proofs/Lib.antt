@@ -9,3 +9,4 @@ pub mod TableForms
 pub mod RestForms
 pub mod ExtForms
 pub mod CallerLemmas
+pub mod PairLemmas

@@ -1,5 +1,5 @@
 -- The reading of a line of each form from the left: its value and what follows its line feed. Only private functions cite it.
-use Rattle.std.specs.Prelude.{ℕ, ◌==◌, ◌&&◌, not, nat_le, Bool, List, Option, slice_index, codes}
+use Rattle.std.specs.Prelude.{ℕ, ◌==◌, ◌&&◌, ◌||◌, not, nat_le, Bool, List, Option, slice_index, codes}
 use Rattle.mpt_spec.specs.declared.entry.Processor.{Processor}
 use Rattle.mpt_spec.specs.declared.entry.Bus.{Bus}
 use Rattle.mpt_spec.specs.declared.entry.IoApic.{IoApic}
@@ -14,6 +14,8 @@ use Rattle.mpt_spec.specs.declared.entry.Ext.{Ext}
 use Rattle.mpt_spec.specs.declared.entry.Ext.TheVariants as ext
 use Rattle.mpt_line.specs.declared.heads.PointerLine.{PointerLine}
 use Rattle.mpt_line.specs.declared.heads.HeaderLine.{HeaderLine}
+use Rattle.mpt_line.specs.declared.heads.HeaderEnd.{HeaderEnd}
+use Rattle.mpt_line.specs.declared.heads.HeaderEnd.TheVariants as end
 use Rattle.mpt_line.specs.Reading.{rest_in, field_in, bytes_field_in, quoted_field_in, after, both, ended, seen_as, checked, either}
 
 unfoldable pub processor_in : List ℕ → Option (Processor × List ℕ)
@@ -62,17 +64,26 @@ ext_in = either (seen_as ext.Space space_in) (either (seen_as ext.Hierarchy hier
 
 -- where the floating pointer is, and what it says, if it is right
 abbrev pub is_right_pointer : PointerLine → Bool
-is_right_pointer v = (v.pointer.revision == 4) && nat_le (slice_index v.pointer.features 0) 7 && not ((slice_index v.pointer.features 0 == 0) && (v.pointer.address == 0))
+is_right_pointer v = ((v.pointer.revision == 1) || (v.pointer.revision == 4)) && nat_le (slice_index v.pointer.features 0) 7 && not ((slice_index v.pointer.features 0 == 0) && (v.pointer.address == 0))
 
 unfoldable pub pointer_in : List ℕ → Option (PointerLine × List ℕ)
 pointer_in = checked is_right_pointer (seen_as (λ v. record { at = v.0; pointer = record { address = v.1.0; revision = v.1.1.0; features = v.1.1.1 } })
     (both (field_in (codes "pointer at ") 8) (both (field_in (codes " table ") 8) (both (field_in (codes " revision ") 2) (ended (bytes_field_in (codes " features ") 5))))))
 
--- the header, if its revision is right
+-- the last field of the header
+unfoldable pub end_in : List ℕ → Option (HeaderEnd × List ℕ)
+end_in = either (seen_as end.Old (bytes_field_in (codes " old ") 4)) (seen_as end.Reserved (field_in (codes " reserved ") 2))
+
+-- the last field of the header is that of its revision
+abbrev pub is_end_of : HeaderEnd → ℕ → Bool
+is_end_of (end.Reserved byte) revision = revision == 4
+is_end_of (end.Old bytes) revision = revision == 1
+
+-- the header, if its last field is that of its revision
 abbrev pub is_right_header : HeaderLine → Bool
-is_right_header h = h.revision == 4
+is_right_header h = is_end_of h.end h.revision
 
 unfoldable pub header_in : List ℕ → Option (HeaderLine × List ℕ)
-header_in = checked is_right_header (seen_as (λ v. record { revision = v.0; oem = v.1.0; product = v.1.1.0; oem_table = v.1.1.1.0; oem_size = v.1.1.1.1.0; local_address = v.1.1.1.1.1.0; reserved = v.1.1.1.1.1.1 })
+header_in = checked is_right_header (seen_as (λ v. record { revision = v.0; oem = v.1.0; product = v.1.1.0; oem_table = v.1.1.1.0; oem_size = v.1.1.1.1.0; local_address = v.1.1.1.1.1.0; end = v.1.1.1.1.1.1 })
     (both (field_in (codes "header revision ") 2) (both (quoted_field_in (codes " oem ") 8) (both (quoted_field_in (codes " product ") 12)
-    (both (field_in (codes " oemtable ") 8) (both (field_in (codes " oemsize ") 4) (both (field_in (codes " local ") 8) (ended (field_in (codes " reserved ") 2)))))))))
+    (both (field_in (codes " oemtable ") 8) (both (field_in (codes " oemsize ") 4) (both (field_in (codes " local ") 8) (ended end_in))))))))

@@ -4,25 +4,28 @@
 --     IsRightExt e                       the line of an extended entry is right
 --     BeginsWith line Right text a rest  the text begins with the line of a right value
 --     BeginsWithNone line Right text     it begins with the line of none
-use Rattle.std.specs.Prelude.{◌≡◌, ◌≢◌, ℕ, ◌^◌, ◌<◌, ◌≤◌, List, [], ◌++◌, length}
+use Rattle.std.specs.Prelude.{◌≡◌, ◌≢◌, ℕ, ◌^◌, ◌<◌, ◌≤◌, List, [], ◌++◌, length, replicate}
 use Rattle.mpt_base.specs.Bytes.{IsByteList}
 use Rattle.mpt_spec.specs.declared.entry.Base.{Base}
 use Rattle.mpt_spec.specs.declared.entry.Ext.{Ext}
 use Rattle.mpt_spec.specs.declared.tables.Table.{Table}
 use Rattle.mpt_spec.specs.declared.tables.Body.TheVariants as body
+use Rattle.mpt_spec.specs.Revision.{IsKnownRevision}
 use Rattle.mpt_spec.specs.Table.{default_number}
 use Rattle.mpt_spec.specs.Canonical.{IsLawfulExt}
 use Rattle.mpt_spec.specs.Values.{IsPointerValue, IsExtValue}
 use Rattle.mpt_listing.specs.Listing.{pointer_line, header_line}
 use Rattle.mpt_line.specs.declared.heads.PointerLine.{PointerLine}
 use Rattle.mpt_line.specs.declared.heads.HeaderLine.{HeaderLine}
+use Rattle.mpt_line.specs.declared.heads.HeaderEnd.{HeaderEnd}
+use Rattle.mpt_line.specs.declared.heads.HeaderEnd.TheVariants as end
 
--- eight digits hold the place, the fields fit, the revision is 4, and feature byte 1 is the number of a default configuration, or
+-- eight digits hold the place, the fields fit, the revision is 1 or 4, and feature byte 1 is the number of a default configuration, or
 -- 0 with the address of a table
 pub record IsRightPointer (v : PointerLine) : Type 0 where
   pub at : v.at < 2 ^ 32
   pub fields : IsPointerValue v.pointer
-  pub revision : v.pointer.revision ≡ 4
+  pub revision : IsKnownRevision v.pointer.revision
   pub number : default_number v.pointer ≤ 7
   pub address : default_number v.pointer ≡ 0 → v.pointer.address ≢ 0
 
@@ -30,15 +33,28 @@ pub record IsRightPointer (v : PointerLine) : Type 0 where
 abbrev pub pointer_text : PointerLine → List ℕ
 pointer_text v = pointer_line (record { at = v.at; pointer = v.pointer; body = body.Default 0 })
 
--- the fields of a header fit, and the revision is 4
+-- the last field of a header is that of its revision, and fits
+abbrev pub IsRightEnd : HeaderEnd → ℕ → Type 0
+IsRightEnd (end.Reserved byte) revision = (revision ≡ 4) × (byte < 256)
+IsRightEnd (end.Old bytes) revision = (revision ≡ 1) × (length bytes ≡ 4) × IsByteList bytes
+
+-- the fields of a header fit, and the last is that of its revision
 pub record IsRightHeader (h : HeaderLine) : Type 0 where
-  pub revision : h.revision ≡ 4
   pub oem : (length h.oem ≡ 8) × IsByteList h.oem
   pub product : (length h.product ≡ 12) × IsByteList h.product
   pub oem_table : h.oem_table < 2 ^ 32
   pub oem_size : h.oem_size < 2 ^ 16
   pub local_address : h.local_address < 2 ^ 32
-  pub reserved : h.reserved < 256
+  pub end : IsRightEnd h.end h.revision
+
+-- the reserved byte and the bytes 40 to 43 that the last field says, zero where it says the other
+abbrev pub reserved_of : HeaderEnd → ℕ
+reserved_of (end.Reserved byte) = byte
+reserved_of (end.Old bytes) = 0
+
+abbrev pub old_of : HeaderEnd → List ℕ
+old_of (end.Reserved byte) = replicate 4 0
+old_of (end.Old bytes) = bytes
 
 -- the table of a header and entries
 abbrev pub table_with : HeaderLine → List Base → List Ext → Table
@@ -49,7 +65,8 @@ table_with h bs es = record {
   oem_table = h.oem_table;
   oem_size = h.oem_size;
   local_address = h.local_address;
-  reserved = h.reserved;
+  reserved = reserved_of h.end;
+  old = old_of h.end;
   base = bs;
   ext = es;
 }

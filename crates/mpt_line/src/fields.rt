@@ -1,8 +1,11 @@
-//! The parts of a line, each read from the left: texts, digits, numbers and bytes in quotes.
+//! The parts of a line, each read from the left: texts, digits, numbers and bytes in quotes. The byte of
+//! two digits is read by the crate `hex`.
 
 ghost use Rattle.std.specs.Prelude.{◌≡◌, ◌≢◌, ◌≤◌, ◌<◌, ◌^◌, ◌++◌, ◌∷◌, [], ℕ, List, IfSome, IfNone};
 ghost use Rattle.mpt_listing.specs.Listing.{is_plain_byte};
-ghost use Rattle.mpt_line.specs.Reading.{Gives, text_in, digit_of, digit_in, hex_in, escaped_in, quoted_byte_in, field_in};
+ghost use Rattle.mpt_line.specs.Reading.{Gives, text_in, digit_of, digit_in, hex_in, byte_of, pair_in, is_lower_case, escaped_in, quoted_byte_in, field_in};
+
+use hex::decode_to_slice;
 
 /// What follows a text, `None` exactly where the line doesn't begin with it.
 pub fn read_text<'a>(line: &'a [u8], text: &[u8]) -> Option<&'a [u8]>
@@ -14,7 +17,7 @@ pub fn read_text<'a>(line: &'a [u8], text: &[u8]) -> Option<&'a [u8]>
 
 /// What follows a text.
 #[tactic(auto, unfolding(crate::specs::Reading::text_in))]
-pub(crate) fn read_part<'a>(line: &'a [u8], text: &[u8]) -> Option<&'a [u8]>
+pub fn read_part<'a>(line: &'a [u8], text: &[u8]) -> Option<&'a [u8]>
     ensures { Gives (λ rest. rest.now) result (text_in text.now line.now) }
 {
     line.strip_prefix(text)
@@ -58,15 +61,47 @@ fn read_hex(line: &[u8], digits: u32) -> Option<(u64, &[u8])>
 }
 
 /// A byte of two digits.
-pub(crate) fn read_byte(line: &[u8]) -> Option<(u8, &[u8])>
+#[tactic(auto, using(crate::proofs::PairLemmas::hex_in_pair))]
+pub fn read_byte(line: &[u8]) -> Option<(u8, &[u8])>
     ensures { Gives (λ x. (x.0, x.1.now)) result (hex_in 2 line.now) }
 {
-    let (number, rest) = read_hex(line, 2)?;
-    Some((number as u8, rest))
+    read_pair(line)
+}
+
+// The byte of two first digits.
+#[tactic(auto, unfolding(crate::specs::Reading::pair_in))]
+fn read_pair(line: &[u8]) -> Option<(u8, &[u8])>
+    ensures { Gives (λ x. (x.0, x.1.now)) result (pair_in line.now) }
+{
+    let (high, rest) = line.split_first()?;
+    let (low, rest) = rest.split_first()?;
+    let byte = byte_of(*high, *low)?;
+    Some((byte, rest))
+}
+
+// The byte of two upper case digits: `hex` takes lower case ones too.
+fn byte_of(high: u8, low: u8) -> Option<u8>
+    ensures { result ≡ byte_of high low }
+{
+    if is_lower_case(high) || is_lower_case(low) {
+        return None;
+    }
+    let mut byte = [0];
+    match decode_to_slice([high, low], &mut byte) {
+        Ok(()) => Some(byte[0]),
+        Err(_) => None,
+    }
+}
+
+// Whether a byte is a lower case letter.
+fn is_lower_case(byte: u8) -> bool
+    ensures { result ≡ is_lower_case byte }
+{
+    byte.is_ascii_lowercase()
 }
 
 /// The line feed, and what follows it.
-pub(crate) fn read_end(line: &[u8]) -> Option<&[u8]>
+pub fn read_end(line: &[u8]) -> Option<&[u8]>
     ensures { Gives (λ rest. rest.now) result (text_in (10 ∷ []) line.now) }
 {
     read_part(line, b"\n")
@@ -74,7 +109,7 @@ pub(crate) fn read_end(line: &[u8]) -> Option<&[u8]>
 
 /// A number of this many digits behind a text.
 #[tactic(auto, unfolding(crate::specs::Reading::field_in))]
-pub(crate) fn read_field<'a>(line: &'a [u8], text: &[u8], digits: u32) -> Option<(u64, &'a [u8])>
+pub fn read_field<'a>(line: &'a [u8], text: &[u8], digits: u32) -> Option<(u64, &'a [u8])>
     requires { digits ≤ 16 }
     ensures value { Gives (λ x. (x.0, x.1.now)) result (field_in text.now digits line.now) }
     ensures bound { IfSome result (λ x. x.0 < 16 ^ digits) }
@@ -84,7 +119,7 @@ pub(crate) fn read_field<'a>(line: &'a [u8], text: &[u8], digits: u32) -> Option
 }
 
 /// A byte behind a text.
-pub(crate) fn read_u8_field<'a>(line: &'a [u8], text: &[u8]) -> Option<(u8, &'a [u8])>
+pub fn read_u8_field<'a>(line: &'a [u8], text: &[u8]) -> Option<(u8, &'a [u8])>
     ensures { Gives (λ x. (x.0, x.1.now)) result (field_in text.now 2 line.now) }
 {
     let (number, rest) = read_field(line, text, 2)?;
@@ -100,7 +135,7 @@ pub(crate) fn read_u16_field<'a>(line: &'a [u8], text: &[u8]) -> Option<(u16, &'
 }
 
 /// A number of 32 bits behind a text.
-pub(crate) fn read_u32_field<'a>(line: &'a [u8], text: &[u8]) -> Option<(u32, &'a [u8])>
+pub fn read_u32_field<'a>(line: &'a [u8], text: &[u8]) -> Option<(u32, &'a [u8])>
     ensures { Gives (λ x. (x.0, x.1.now)) result (field_in text.now 8 line.now) }
 {
     let (number, rest) = read_field(line, text, 8)?;

@@ -15,7 +15,7 @@ pub struct PointerLine {
 /// (MultiProcessor Specification 1.4, section 4.2).
 #[derive(Clone, Copy)]
 pub struct HeaderLine {
-    /// The revision, 4 for specification 1.4.
+    /// The revision: 1 for specification 1.1, 4 for specification 1.4.
     pub revision: u8,
     /// The OEM id.
     pub oem: [u8; 8],
@@ -27,6 +27,15 @@ pub struct HeaderLine {
     pub oem_size: u16,
     /// The base address of the local APICs.
     pub local_address: u32,
-    /// Reserved byte 43.
-    pub reserved: u8,
+    /// The last field.
+    pub end: HeaderEnd,
+}
+
+/// The last field of a header's line.
+#[derive(Clone, Copy)]
+pub enum HeaderEnd {
+    /// The reserved byte 43, at revision 4.
+    Reserved(u8),
+    /// Bytes 40 to 43, at revision 1.
+    Old([u8; 4]),
 }

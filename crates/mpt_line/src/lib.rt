@@ -11,6 +11,8 @@ mod table_lines;
 
 pub use base_lines::read_base_line;
 pub use ext_lines::read_ext_line;
-pub use fields::read_text;
-pub use heads::{HeaderLine, PointerLine};
+pub use fields::{
+    read_byte, read_end, read_field, read_part, read_text, read_u8_field, read_u32_field,
+};
+pub use heads::{HeaderEnd, HeaderLine, PointerLine};
 pub use table_lines::{read_header_line, read_pointer_line};

@@ -2,13 +2,13 @@
 
 ghost use Rattle.std.specs.Prelude.{◌≡◌, IfSome, IfNone, codes};
 ghost use Rattle.mpt_line.specs.Reading.{Gives, field_in, both, ended};
-ghost use Rattle.mpt_line.specs.Forms.{pointer_in, header_in, is_right_pointer};
+ghost use Rattle.mpt_line.specs.Forms.{pointer_in, end_in, header_in, is_right_pointer, is_right_header};
 ghost use Rattle.mpt_line.specs.Lines.{IsRightPointer, pointer_text, IsRightHeader, header_text, BeginsWith, BeginsWithNone};
 
 use crate::byte_fields::{read_bytes_field, read_quoted_field};
 use crate::fields::{read_end, read_field, read_u8_field, read_u16_field, read_u32_field};
-use crate::heads::{HeaderLine, PointerLine};
-use mpt_spec::Pointer;
+use crate::heads::{HeaderEnd, HeaderLine, PointerLine};
+use mpt_spec::{OLD_REVISION, Pointer, REVISION, is_known_revision};
 
 /// The floating pointer and its place whose line begins the text, and what follows that line; `None`
 /// exactly where the text begins with no such line.
@@ -59,7 +59,7 @@ fn is_right(line: &PointerLine) -> bool
 {
     let pointer = &line.pointer;
     let number = pointer.features[0];
-    pointer.revision == 4 && number <= 7 && !(number == 0 && pointer.address == 0)
+    is_known_revision(pointer.revision) && number <= 7 && !(number == 0 && pointer.address == 0)
 }
 
 #[tactic(auto, unfolding(crate::specs::Forms::header_in))]
@@ -71,35 +71,57 @@ fn read_header(line: &[u8]) -> Option<(HeaderLine, &[u8])>
     let rest = read_quoted_field(&mut oem, rest, b" oem ")?;
     let mut product = [0; 12];
     let rest = read_quoted_field(&mut product, rest, b" product ")?;
-    let ((oem_table, oem_size, local_address, reserved), rest) = read_numbers(rest)?;
-    if revision != 4 {
-        return None;
+    let ((oem_table, oem_size, local_address, end), rest) = read_numbers(rest)?;
+    let header = HeaderLine {
+        revision,
+        oem,
+        product,
+        oem_table,
+        oem_size,
+        local_address,
+        end,
+    };
+    if has_end_of_revision(&header) {
+        Some((header, rest))
+    } else {
+        None
     }
-    Some((
-        HeaderLine {
-            revision,
-            oem,
-            product,
-            oem_table,
-            oem_size,
-            local_address,
-            reserved,
-        },
-        rest,
-    ))
 }
 
-// The numbers that end the header's line: the address and the size of the OEM table, the address of the
-// local APICs and the reserved byte.
-fn read_numbers(line: &[u8]) -> Option<((u32, u16, u32, u8), &[u8])>
+// Whether the last field is that of the revision.
+fn has_end_of_revision(header: &HeaderLine) -> bool
+    ensures { result ≡ is_right_header header.now }
+{
+    match header.end {
+        HeaderEnd::Reserved(_) => header.revision == REVISION,
+        HeaderEnd::Old(_) => header.revision == OLD_REVISION,
+    }
+}
+
+// What ends the header's line: the address and the size of the OEM table, the address of the local APICs
+// and the last field.
+fn read_numbers(line: &[u8]) -> Option<((u32, u16, u32, HeaderEnd), &[u8])>
     ensures { Gives (λ x. ((x.0.0, (x.0.1, (x.0.2, x.0.3))), x.1.now)) result
         (both (field_in (codes " oemtable ") 8) (both (field_in (codes " oemsize ") 4)
-        (both (field_in (codes " local ") 8) (ended (field_in (codes " reserved ") 2)))) line.now) }
+        (both (field_in (codes " local ") 8) (ended end_in))) line.now) }
 {
     let (oem_table, rest) = read_u32_field(line, b" oemtable ")?;
     let (oem_size, rest) = read_u16_field(rest, b" oemsize ")?;
     let (local_address, rest) = read_u32_field(rest, b" local ")?;
-    let (reserved, rest) = read_u8_field(rest, b" reserved ")?;
+    let (end, rest) = read_header_end(rest)?;
     let rest = read_end(rest)?;
-    Some(((oem_table, oem_size, local_address, reserved), rest))
+    Some(((oem_table, oem_size, local_address, end), rest))
+}
+
+// The last field of the header's line: bytes 40 to 43, or the reserved byte.
+#[tactic(auto, unfolding(crate::specs::Forms::end_in))]
+fn read_header_end(line: &[u8]) -> Option<(HeaderEnd, &[u8])>
+    ensures { Gives (λ x. (x.0, x.1.now)) result (end_in line.now) }
+{
+    let mut old = [0; 4];
+    if let Some(rest) = read_bytes_field(&mut old, line, b" old ") {
+        return Some((HeaderEnd::Old(old), rest));
+    }
+    let (reserved, rest) = read_u8_field(line, b" reserved ")?;
+    Some((HeaderEnd::Reserved(reserved), rest))
 }

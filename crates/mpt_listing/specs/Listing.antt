@@ -15,6 +15,7 @@ use Rattle.mpt_spec.specs.declared.tables.Table.{Table}
 use Rattle.mpt_spec.specs.declared.tables.Body.{Body}
 use Rattle.mpt_spec.specs.declared.tables.Body.TheVariants as body
 use Rattle.mpt_spec.specs.declared.tables.Tables.{Tables}
+use Rattle.mpt_spec.specs.Revision.{by_revision}
 
 -- the digit of a number below 16: `0` to `9`, `A` to `F`
 abbrev pub hex_digit : ℕ → ℕ
@@ -52,11 +53,12 @@ pointer_line tables =
     let p = tables.pointer in
     line (codes "pointer at " ∷ hex 8 tables.at ∷ codes " table " ∷ hex 8 p.address ∷ codes " revision " ∷ hex 2 p.revision ∷ codes " features " ∷ hex_bytes p.features ∷ [])
 
--- the fields of the header that the entries don't determine
+-- the fields of the header that the entries don't determine; the last is the reserved byte, or at revision 1 the bytes 40 to 43
 abbrev pub header_line : Table → List ℕ
 header_line t =
     line (codes "header revision " ∷ hex 2 t.revision ∷ codes " oem " ∷ quoted t.oem ∷ codes " product " ∷ quoted t.product
-    ∷ codes " oemtable " ∷ hex 8 t.oem_table ∷ codes " oemsize " ∷ hex 4 t.oem_size ∷ codes " local " ∷ hex 8 t.local_address ∷ codes " reserved " ∷ hex 2 t.reserved ∷ [])
+    ∷ codes " oemtable " ∷ hex 8 t.oem_table ∷ codes " oemsize " ∷ hex 4 t.oem_size ∷ codes " local " ∷ hex 8 t.local_address
+    ∷ by_revision t.revision (codes " old ") (codes " reserved ") ∷ by_revision t.revision (hex_bytes t.old) (hex 2 t.reserved) ∷ [])
 
 -- the line of an interrupt entry, after a word that says whether it is I/O or local
 abbrev pub interrupt_line : List ℕ → IntEntry → List ℕ

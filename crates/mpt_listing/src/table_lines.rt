@@ -1,10 +1,12 @@
 //! The lines of the floating pointer and of the table's header.
 
-ghost use Rattle.std.specs.Prelude.{◌≡◌, ◌++◌, OnOk};
-ghost use Rattle.mpt_listing.specs.Listing.{pointer_line, header_line};
+ghost use Rattle.std.specs.Prelude.{◌≡◌, ◌++◌, codes, OnOk};
+ghost use Rattle.mpt_spec.specs.Revision.{by_revision};
+ghost use Rattle.mpt_listing.specs.Listing.{hex, hex_bytes, pointer_line, header_line};
+ghost use Rattle.mpt_listing.specs.Part.{part_text};
 
 use crate::text::{Part, push_line};
-use mpt_spec::{Table, Tables};
+use mpt_spec::{OLD_REVISION, Table, Tables};
 use std::alloc::AllocError;
 
 /// Writes where the floating pointer is, and what it says.
@@ -27,6 +29,28 @@ pub(crate) fn push_pointer_line(out: &mut Vec<u8>, tables: &Tables) -> Result<()
     )
 }
 
+// The name of the header's last field
+fn last_name(table: &Table) -> Part<'_>
+    ensures { part_text result ≡ by_revision table.now.revision (codes " old ") (codes " reserved ") }
+{
+    if table.revision == OLD_REVISION {
+        Part::Text(b" old ")
+    } else {
+        Part::Text(b" reserved ")
+    }
+}
+
+// The header's last field: the reserved byte, or at revision 1 the bytes 40 to 43
+fn last_field(table: &Table) -> Part<'_>
+    ensures { part_text result ≡ by_revision table.now.revision (hex_bytes table.now.old) (hex 2 table.now.reserved) }
+{
+    if table.revision == OLD_REVISION {
+        Part::HexBytes(&table.old)
+    } else {
+        Part::Hex(2, table.reserved as u64)
+    }
+}
+
 /// Writes the fields of the header that the entries don't determine.
 pub(crate) fn push_header_line(out: &mut Vec<u8>, table: &Table) -> Result<(), AllocError>
     ensures { OnOk result (out.new.items ≡ out.old.items ++ header_line table.now) }
@@ -46,8 +70,8 @@ pub(crate) fn push_header_line(out: &mut Vec<u8>, table: &Table) -> Result<(), A
             Part::Hex(4, table.oem_size as u64),
             Part::Text(b" local "),
             Part::Hex(8, table.local_address as u64),
-            Part::Text(b" reserved "),
-            Part::Hex(2, table.reserved as u64),
+            last_name(table),
+            last_field(table),
         ],
     )
 }

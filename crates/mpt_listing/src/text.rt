@@ -1,12 +1,13 @@
 //! What every line is made of: plain text, numbers in upper case hexadecimal, and bytes in quotes.
 //!
-//! Each function writes at the end of a text and takes memory for nothing else. It fails only where
-//! memory runs out, and may then have written a part.
+//! Each function writes at the end of a text. It fails only where memory runs out, and may then have
+//! written a part. Bytes are written by the crate `hex`.
 
 ghost use Rattle.std.specs.Prelude.{◌≡◌, ◌<◌, ◌++◌, ◌∷◌, [], decimal, map, OnOk};
 ghost use Rattle.mpt_listing.specs.Listing.{line, hex_digit, hex, hex_bytes, is_plain_byte, quoted_byte, quoted};
 ghost use Rattle.mpt_listing.specs.Part.{part_text};
 
+use hex::encode_upper;
 use itoa::Buffer;
 use std::alloc::AllocError;
 
@@ -88,15 +89,13 @@ pub fn push_decimal(out: &mut Vec<u8>, number: u64) -> Result<(), AllocError>
     out.extend_from_slice(buffer.format(number).as_bytes())
 }
 
-/// Writes two digits for each byte.
-#[tactic(auto, unfolding(crate::specs::Listing::hex_bytes))]
+/// Writes two digits for each byte. It takes memory for these digits by themselves too.
 pub fn push_hex_bytes(out: &mut Vec<u8>, bytes: &[u8]) -> Result<(), AllocError>
     ensures { OnOk result (out.new.items ≡ out.old.items ++ hex_bytes bytes.now) }
 {
-    for byte in bytes {
-        push_hex(out, 2, *byte as u64)?;
-    }
-    Ok(())
+    let alloc = *out.allocator();
+    let digits = encode_upper(alloc, bytes)?;
+    out.extend_from_slice(digits.as_bytes())
 }
 
 /// Writes bytes in double quotes, those that aren't plain as `\x` and two digits.

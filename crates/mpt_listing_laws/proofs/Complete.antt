@@ -1,8 +1,10 @@
 -- Every text is the listing of tables or has a first bad line.
 use Rattle.std.proofs.Common.{◌≡◌, ℕ, zero, suc, ◌+◌, ◌<◌, ◌≤◌, List, [], ◌∷◌, ◌++◌, length, sym, refl, ap, ◌∙◌, append_assoc, append-nil, inl, inr, ◌⊎◌, arith}
 use Rattle.std.specs.Prelude.{◌≢◌}
+use Rattle.std.proofs.lemmas.Bool.{cases_eq}
 use Rattle.std.specs.List.{flat_map}
 use Rattle.mpt_spec.specs.declared.pointer.Pointer.{Pointer}
+use Rattle.mpt_spec.specs.declared.entry.Ext.{Ext}
 use Rattle.mpt_spec.specs.declared.tables.Table.{Table}
 use Rattle.mpt_spec.specs.declared.tables.Body.{Body}
 use Rattle.mpt_spec.specs.declared.tables.Body.TheVariants as body
@@ -19,9 +21,9 @@ use Rattle.mpt_parse.specs.declared.fault.LineWhy.TheVariants as why
 use Rattle.mpt_parse.specs.declared.fault.ListingFault.TheVariants as fault
 use Rattle.mpt_parse.specs.Listings.{title_line, end_line, HasRightBody, IsListing, IsListingOf, IsFirstBadLine}
 use Rattle.mpt_line.proofs.CallerLemmas.{text-first}
-use Rattle.mpt_parse.specs.Languages.{IsEnd, AreTableLines, AreBodyLines, IsRightTable, IsFaultBehind, IsUnfinished, AreFirstLines, behind_text}
+use Rattle.mpt_parse.specs.Languages.{IsEnd, MayFollow, AreTableLines, AreBodyLines, IsRightTable, IsFaultBehind, IsUnfinished, AreFirstLines, behind_text}
 use Rattle.mpt_parse.proofs.Prefix.{end_stop, late}
-use Rattle.mpt_parse.proofs.EntryLines.{shorter, base_some, ext_some}
+use Rattle.mpt_parse.proofs.EntryLines.{shorter, base_some, ext_some, none_follow, new_follow}
 use Rattle.mpt_parse.proofs.TableLines.{table_stop, table_fault, table_whole, listed_fault, default_fault}
 use Rattle.mpt_parse.proofs.ListingLines.{tables_of, title_stop, title_fault, pointer_stop, pointer_fault, listing_whole}
 
@@ -64,6 +66,13 @@ module _ {E : Type 0} (line : E → List ℕ) (Right : E → Type 0) (first : (t
   entries_in zero text h = entries_step text zero h (λ after l. absurd (omega (arith, l)))
   entries_in (suc n) text h = entries_step text (suc n) h (λ after l. entries_in n after (omega (arith, l)))
 
+-- the extended entries that may follow a header, one after another
+ext_part : (h : HeaderLine) (text : List ℕ) → (es : List Ext) × (rest : List ℕ) × AreFirstLines ext_line (MayFollow h) es text rest
+ext_part h text = elim (cases_eq h.revision 1) [
+  | inl one ↦ ([], text, none_follow h text one)
+  | inr new ↦ (let x = entries_in ext_line IsRightExt ext_line-first ext_some (length text) text (omega arith) in (x.0, x.1, new_follow h x.0 text x.1 new x.2))
+]
+
 -- a table, or its first bad line
 abbrev IsTableText : List ℕ → Type 0
 IsTableText text = (t : Table) × IsRightTable t × (text ≡ behind_text (body.Listed t))
@@ -77,7 +86,7 @@ table_or_fault text = elim (header_text-first text) [
     at : (h : HeaderLine) (rest : List ℕ) → BeginsWith header_text IsRightHeader text h rest → IsTableText text ⊎ HasFault AreTableLines 2 text
     at h rest e =
         let b = entries_in base_line IsBaseValue base_line-first base_some (length rest) rest (omega arith) in
-        let x = entries_in ext_line IsRightExt ext_line-first ext_some (length b.1) b.1 (omega arith) in
+        let x = ext_part h b.1 in
         elim (end_or_fault (2 + 1 + length b.0 + length x.0) x.1) [
           | inl k ↦ (let w = table_whole h b.0 x.0 text rest b.1 x.1 e b.2 x.2 k in inl (table_with h b.0 x.0, w.0, w.1))
           | inr f ↦ inr (f.0, f.1, table_fault h b.0 x.0 text rest b.1 x.1 2 (fault.Line f.0 f.1) e b.2 x.2 f.2)

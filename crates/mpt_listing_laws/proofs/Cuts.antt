@@ -12,7 +12,8 @@ use Rattle.mpt_parse.specs.declared.fault.LineWhy.TheVariants as why
 use Rattle.mpt_parse.specs.Listings.{title_line, end_line, lines_behind, lines_of, HasRightValues, IsListing, IsFirstBadLine, HasNoFeed, IsWholeLine}
 use Rattle.mpt_parse.proofs.EntryLines.{kind_of_line, base_kind, ext_kind, head_is, tail_is}
 use Rattle.mpt_parse.proofs.WholeLines.{no_empty_line}
-use Rattle.mpt_parse.proofs.Unique.{listing_whole, empty_front, whole_at, lines_make_the_listing}
+use Rattle.mpt_parse.proofs.BadLines.{empty_front, whole_at}
+use Rattle.mpt_parse.proofs.Unique.{listing_whole, lines_make_the_listing}
 
 -- a line before the last: its first byte tells it from `end`
 abbrev IsInner : List ℕ → Type 0

@@ -38,7 +38,7 @@ const HEADS: &[Row] = &[
         name: "the revision of 1.1 in the floating pointer",
         number: 2,
         line: b"pointer at 000F0000 table 000E0000 revision 01 features 0000000000\n",
-        answer: Answer::Form(2),
+        answer: Answer::Accepted,
     },
     Row {
         name: "a place of nine digits",
@@ -89,9 +89,15 @@ const HEADS: &[Row] = &[
         answer: Answer::Accepted,
     },
     Row {
-        name: "the revision of 1.1 in the header",
+        name: "the revision of 1.1 with the field of 1.4 in the header",
         number: 3,
         line: b"header revision 01 oem \"MPTAB   \" product \"BOARD       \" oemtable 00000000 oemsize 0000 local FEE00000 reserved 00\n",
+        answer: Answer::Form(3),
+    },
+    Row {
+        name: "the revision of 1.4 with the field of 1.1 in the header",
+        number: 3,
+        line: b"header revision 04 oem \"MPTAB   \" product \"BOARD       \" oemtable 00000000 oemsize 0000 local FEE00000 old 00000000\n",
         answer: Answer::Form(3),
     },
     Row {

@@ -1,6 +1,6 @@
 -- The lines of entries, one at a time, and the first bad line behind them.
 use Rattle.std.proofs.Common.{◌≡◌, ℕ, ◌+◌, ◌<◌, ◌≤◌, true, false, List, [], ◌∷◌, ◌++◌, length, map, sym, refl, ap, ◌∙◌, inl, inr, ◌⊎◌, append_assoc, append-nil, length-append, arith}
-use Rattle.std.specs.Prelude.{◌==◌, ◌||◌, if◌then◌else◌}
+use Rattle.std.specs.Prelude.{◌==◌, ◌≢◌, ◌||◌, if◌then◌else◌}
 use Rattle.std.specs.List.{AllByRecursion, flat_map}
 use Rattle.std.proofs.lemmas.List.Concat.{flat_map-append}
 use Rattle.std.proofs.lemmas.Bool.Decides.{nat_tests}
@@ -13,7 +13,8 @@ use Rattle.mpt_listing.specs.Listing.{line, base_line, ext_line}
 use Rattle.mpt_parse.specs.declared.fault.ListingFault.{ListingFault}
 use Rattle.mpt_parse.specs.Listings.{end_line}
 use Rattle.mpt_line.specs.Lines.{IsRightExt, BeginsWithNone}
-use Rattle.mpt_parse.specs.Languages.{IsEnd, AreExtLines, AreEntryLines, IsFaultBehind, AreFirstLines}
+use Rattle.mpt_line.specs.declared.heads.HeaderLine.{HeaderLine}
+use Rattle.mpt_parse.specs.Languages.{IsEnd, MayFollow, AreExtLines, AreEntryLines, IsFaultBehind, AreFirstLines}
 use Rattle.mpt_parse.proofs.Prefix.{steps, narrow}
 
 -- the kind of a line by its first byte: 0 a base entry, 1 an extended entry, 2 any other
@@ -58,72 +59,93 @@ tail_is x y xs ys h = cc
 pub regroup : (a b c d : List ℕ) → a ++ (b ++ (c ++ d)) ≡ ((a ++ b) ++ c) ++ d
 regroup a b c d = simp append_assoc
 
--- what a first line is
-ext_next : (l : List ℕ) (ls : List (List ℕ)) → AreExtLines (l ∷ ls) → ((e : Ext) × (l ≡ ext_line e) × IsRightExt e × AreExtLines ls) ⊎ IsEnd (l ∷ ls)
-ext_next l ls ([], v, h) = inr h
-ext_next l ls (e ∷ es, v, h) = inl (e, head_is l (ext_line e) ls (map ext_line es ++ end_line ∷ []) h, v.0, (es, v.1, tail_is l (ext_line e) ls (map ext_line es ++ end_line ∷ []) h))
+-- extended entries that may follow a header: none at revision 1, and at any other all that are right
+pub none_follow : (head : HeaderLine) (text : List ℕ) → head.revision ≡ 1 → AreFirstLines ext_line (MayFollow head) [] text text
+none_follow head text one = record { whole = refl; values = tt; last = λ e rest m. absurd (m.revision one) }
 
-base_next : (l : List ℕ) (ls : List (List ℕ)) → AreEntryLines (l ∷ ls) → ((e : Base) × (l ≡ base_line e) × IsBaseValue e × AreEntryLines ls) ⊎ AreExtLines (l ∷ ls)
-base_next l ls ([], es, v, w, h) = inr (es, w, h)
-base_next l ls (b ∷ bs, es, v, w, h) =
-    inl (b, head_is l (base_line b) ls (map base_line bs ++ (map ext_line es ++ end_line ∷ [])) h, v.0, (bs, es, v.1, w, tail_is l (base_line b) ls (map base_line bs ++ (map ext_line es ++ end_line ∷ [])) h))
+pub all_follow : (head : HeaderLine) (es : List Ext) → (head.revision ≡ 1 → es ≡ []) → AllByRecursion IsRightExt es → AllByRecursion (MayFollow head) es
+all_follow head [] f v = tt
+all_follow head (e ∷ es) f v = (record { revision = λ one. absurd (cc (f one)); right = v.0 }, all_follow head es (λ one. absurd (cc (f one))) v.1)
 
--- behind the line of an entry what may follow it
-ext_to : (e : Ext) (ls : List (List ℕ)) → AreExtLines (ext_line e ∷ ls) → AreExtLines ls
-ext_to e ls h = elim (ext_next (ext_line e) ls h) [
-  | inl k ↦ k.3
-  | inr k ↦ absurd (other_kind (ext_line e) end_line 1 2 (head_is (ext_line e) end_line ls [] k) (ext_kind e) refl (omega arith))
-]
+pub right_follow : (head : HeaderLine) (es : List Ext) → AllByRecursion (MayFollow head) es → AllByRecursion IsRightExt es
+right_follow head [] v = tt
+right_follow head (e ∷ es) v = (v.0.right, right_follow head es v.1)
 
-base_to : (e : Base) (ls : List (List ℕ)) → AreEntryLines (base_line e ∷ ls) → AreEntryLines ls
-base_to e ls h = elim (base_next (base_line e) ls h) [
-  | inl k ↦ k.3
-  | inr k ↦ elim (ext_next (base_line e) ls k) [
-    | inl m ↦ absurd (other_kind (base_line e) (ext_line m.0) 0 1 m.1 (base_kind e) (ext_kind m.0) (omega arith))
-    | inr m ↦ absurd (other_kind (base_line e) end_line 0 2 (head_is (base_line e) end_line ls [] m) (base_kind e) refl (omega arith))
+pub old_follow : (head : HeaderLine) (es : List Ext) → AllByRecursion (MayFollow head) es → head.revision ≡ 1 → es ≡ []
+old_follow head [] v one = refl
+old_follow head (e ∷ es) v one = absurd (v.0.revision one)
+
+pub new_follow : (head : HeaderLine) (es : List Ext) (text rest : List ℕ) → head.revision ≢ 1 → AreFirstLines ext_line IsRightExt es text rest → AreFirstLines ext_line (MayFollow head) es text rest
+new_follow head es text rest new p = record { whole = p.whole; values = all_follow head es (λ one. absurd (new one)) p.values; last = λ e follow m. p.last e follow m.right }
+
+-- the lines behind this header
+module _ (head : HeaderLine) where
+  -- what a first line is
+  ext_next : (l : List ℕ) (ls : List (List ℕ)) → AreExtLines head (l ∷ ls) → ((e : Ext) × (l ≡ ext_line e) × MayFollow head e × AreExtLines head ls) ⊎ IsEnd (l ∷ ls)
+  ext_next l ls ([], v, h) = inr h
+  ext_next l ls (e ∷ es, v, h) = inl (e, head_is l (ext_line e) ls (map ext_line es ++ end_line ∷ []) h, v.0, (es, v.1, tail_is l (ext_line e) ls (map ext_line es ++ end_line ∷ []) h))
+
+  base_next : (l : List ℕ) (ls : List (List ℕ)) → AreEntryLines head (l ∷ ls) → ((e : Base) × (l ≡ base_line e) × IsBaseValue e × AreEntryLines head ls) ⊎ AreExtLines head (l ∷ ls)
+  base_next l ls ([], es, v, w, h) = inr (es, w, h)
+  base_next l ls (b ∷ bs, es, v, w, h) =
+      inl (b, head_is l (base_line b) ls (map base_line bs ++ (map ext_line es ++ end_line ∷ [])) h, v.0, (bs, es, v.1, w, tail_is l (base_line b) ls (map base_line bs ++ (map ext_line es ++ end_line ∷ [])) h))
+
+  -- behind the line of an entry what may follow it
+  ext_to : (e : Ext) (ls : List (List ℕ)) → AreExtLines head (ext_line e ∷ ls) → AreExtLines head ls
+  ext_to e ls h = elim (ext_next (ext_line e) ls h) [
+    | inl k ↦ k.3
+    | inr k ↦ absurd (other_kind (ext_line e) end_line 1 2 (head_is (ext_line e) end_line ls [] k) (ext_kind e) refl (omega arith))
   ]
-]
 
-ext_from : (e : Ext) (ls : List (List ℕ)) → IsRightExt e → AreExtLines ls → AreExtLines (ext_line e ∷ ls)
-ext_from e ls v (es, w, h) = (e ∷ es, (v, w), ap (λ x. ext_line e ∷ x) h)
+  base_to : (e : Base) (ls : List (List ℕ)) → AreEntryLines head (base_line e ∷ ls) → AreEntryLines head ls
+  base_to e ls h = elim (base_next (base_line e) ls h) [
+    | inl k ↦ k.3
+    | inr k ↦ elim (ext_next (base_line e) ls k) [
+      | inl m ↦ absurd (other_kind (base_line e) (ext_line m.0) 0 1 m.1 (base_kind e) (ext_kind m.0) (omega arith))
+      | inr m ↦ absurd (other_kind (base_line e) end_line 0 2 (head_is (base_line e) end_line ls [] m) (base_kind e) refl (omega arith))
+    ]
+  ]
 
-base_from : (e : Base) (ls : List (List ℕ)) → IsBaseValue e → AreEntryLines ls → AreEntryLines (base_line e ∷ ls)
-base_from e ls v (bs, es, w, u, h) = (e ∷ bs, es, (v, w), u, ap (λ x. base_line e ∷ x) h)
+  ext_from : (e : Ext) (ls : List (List ℕ)) → MayFollow head e → AreExtLines head ls → AreExtLines head (ext_line e ∷ ls)
+  ext_from e ls v (es, w, h) = (e ∷ es, (v, w), ap (λ x. ext_line e ∷ x) h)
 
--- where no extended entry stands first, the end is due
-ext_here : (text : List ℕ) → BeginsWithNone ext_line IsRightExt text → (x follow : List ℕ) (ls : List (List ℕ)) → text ≡ x ++ follow → AreExtLines (x ∷ ls) → IsEnd (x ∷ ls)
-ext_here text none x follow ls e h = elim (ext_next x ls h) [
-  | inl k ↦ absurd (none k.0 follow k.2 (e ∙ ap (λ y. y ++ follow) k.1))
-  | inr k ↦ k
-]
+  base_from : (e : Base) (ls : List (List ℕ)) → IsBaseValue e → AreEntryLines head ls → AreEntryLines head (base_line e ∷ ls)
+  base_from e ls v (bs, es, w, u, h) = (e ∷ bs, es, (v, w), u, ap (λ x. base_line e ∷ x) h)
 
--- where no base entry stands first, extended entries and the end are due
-base_here : (text : List ℕ) → BeginsWithNone base_line IsBaseValue text → (x follow : List ℕ) (ls : List (List ℕ)) → text ≡ x ++ follow → AreEntryLines (x ∷ ls) → AreExtLines (x ∷ ls)
-base_here text none x follow ls e h = elim (base_next x ls h) [
-  | inl k ↦ absurd (none k.0 follow k.2 (e ∙ ap (λ y. y ++ follow) k.1))
-  | inr k ↦ k
-]
+  -- where no extended entry stands first, the end is due
+  ext_here : (text : List ℕ) → BeginsWithNone ext_line (MayFollow head) text → (x follow : List ℕ) (ls : List (List ℕ)) → text ≡ x ++ follow → AreExtLines head (x ∷ ls) → IsEnd (x ∷ ls)
+  ext_here text none x follow ls e h = elim (ext_next x ls h) [
+    | inl k ↦ absurd (none k.0 follow k.2 (e ∙ ap (λ y. y ++ follow) k.1))
+    | inr k ↦ k
+  ]
 
-no_exts : AreExtLines [] → ⊥
-no_exts ([], v, h) = absurd (cc (h))
-no_exts (e ∷ es, v, h) = absurd (cc (h))
+  -- where no base entry stands first, extended entries and the end are due
+  base_here : (text : List ℕ) → BeginsWithNone base_line IsBaseValue text → (x follow : List ℕ) (ls : List (List ℕ)) → text ≡ x ++ follow → AreEntryLines head (x ∷ ls) → AreExtLines head (x ∷ ls)
+  base_here text none x follow ls e h = elim (base_next x ls h) [
+    | inl k ↦ absurd (none k.0 follow k.2 (e ∙ ap (λ y. y ++ follow) k.1))
+    | inr k ↦ k
+  ]
 
-no_entries : AreEntryLines [] → ⊥
-no_entries ([], es, v, w, h) = no_exts (es, w, h)
-no_entries (b ∷ bs, es, v, w, h) = absurd (cc (h))
+  no_exts : AreExtLines head [] → ⊥
+  no_exts ([], v, h) = absurd (cc (h))
+  no_exts (e ∷ es, v, h) = absurd (cc (h))
 
--- the first bad line behind the extended entries, and behind all entries
-pub ext_fault : (es : List Ext) (text rest : List ℕ) (before : ℕ) (f : ListingFault) → AreFirstLines ext_line IsRightExt es text rest → IsFaultBehind IsEnd (before + length es) rest f → IsFaultBehind AreExtLines before text f
-ext_fault es text rest before f p h =
-    steps AreExtLines IsRightExt ext_line es text rest before f ext_to ext_from p.whole p.values
-    (narrow IsEnd AreExtLines rest (λ ls k. ([], tt, k)) (ext_here rest p.last) no_exts (before + length es) f h)
+  no_entries : AreEntryLines head [] → ⊥
+  no_entries ([], es, v, w, h) = no_exts (es, w, h)
+  no_entries (b ∷ bs, es, v, w, h) = absurd (cc (h))
 
-pub entry_fault : (bs : List Base) (es : List Ext) (text middle rest : List ℕ) (before : ℕ) (f : ListingFault) → AreFirstLines base_line IsBaseValue bs text middle → AreFirstLines ext_line IsRightExt es middle rest
-    → IsFaultBehind IsEnd (before + length bs + length es) rest f → IsFaultBehind AreEntryLines before text f
-entry_fault bs es text middle rest before f p q h =
-    steps AreEntryLines IsBaseValue base_line bs text middle before f base_to base_from p.whole p.values
-    (narrow AreExtLines AreEntryLines middle (λ ls k. ([], k.0, tt, k.1, k.2)) (base_here middle p.last) no_entries (before + length bs) f
-    (ext_fault es middle rest (before + length bs) f q h))
+  -- the first bad line behind the extended entries, and behind all entries
+  pub ext_fault : (es : List Ext) (text rest : List ℕ) (before : ℕ) (f : ListingFault) → AreFirstLines ext_line (MayFollow head) es text rest → IsFaultBehind IsEnd (before + length es) rest f → IsFaultBehind (AreExtLines head) before text f
+  ext_fault es text rest before f p h =
+      steps (AreExtLines head) (MayFollow head) ext_line es text rest before f ext_to ext_from p.whole p.values
+      (narrow IsEnd (AreExtLines head) rest (λ ls k. ([], tt, k)) (ext_here rest p.last) no_exts (before + length es) f h)
+
+  pub entry_fault : (bs : List Base) (es : List Ext) (text middle rest : List ℕ) (before : ℕ) (f : ListingFault) → AreFirstLines base_line IsBaseValue bs text middle → AreFirstLines ext_line (MayFollow head) es middle rest
+      → IsFaultBehind IsEnd (before + length bs + length es) rest f → IsFaultBehind (AreEntryLines head) before text f
+  entry_fault bs es text middle rest before f p q h =
+      steps (AreEntryLines head) IsBaseValue base_line bs text middle before f base_to base_from p.whole p.values
+      (narrow (AreExtLines head) (AreEntryLines head) middle (λ ls k. ([], k.0, tt, k.1, k.2)) (base_here middle p.last) no_entries (before + length bs) f
+      (ext_fault es middle rest (before + length bs) f q h))
 
 -- the line of one more entry
 pub more_lines : {E : Type 0} (show : E → List ℕ) (es : List E) (e : E) (text rest after : List ℕ) → text ≡ flat_map show es ++ rest → rest ≡ show e ++ after → text ≡ flat_map show (es ++ e ∷ []) ++ after

@@ -4,5 +4,6 @@ pub mod TableLines
 pub mod ListingLines
 pub mod FitLemmas
 pub mod WholeLines
+pub mod BadLines
 pub mod Unique
 pub mod AnswerLemmas

@@ -1,5 +1,5 @@
 -- The lines of a whole listing: the title, the floating pointer, and what is behind it.
-use Rattle.std.proofs.Common.{◌≡◌, ℕ, ◌+◌, ◌^◌, ◌<◌, ◌≤◌, List, [], ◌∷◌, ◌++◌, length, sym, refl, ap, ◌∙◌, subst, length-append, arith}
+use Rattle.std.proofs.Common.{◌≡◌, ℕ, ◌+◌, ◌^◌, ◌<◌, ◌≤◌, List, [], ◌∷◌, ◌++◌, length, inr, sym, refl, ap, ◌∙◌, subst, length-append, arith}
 use Rattle.std.specs.Prelude.{◌≢◌}
 use Rattle.mpt_spec.specs.declared.pointer.Pointer.{Pointer}
 use Rattle.mpt_spec.specs.declared.tables.Body.{Body}
@@ -72,7 +72,7 @@ right_some =
     record {
       at = omega arith;
       fields = record { address = omega arith; revision = omega arith; features = to_bytes (1 ∷ 0 ∷ 0 ∷ 0 ∷ 0 ∷ []) 5 (refl, (omega arith, (z, (z, (z, (z, tt)))))) };
-      revision = refl;
+      revision = inr refl;
       number = omega arith;
       address = λ e. absurd (omega (arith, e));
     }

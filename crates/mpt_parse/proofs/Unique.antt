@@ -1,5 +1,5 @@
 -- A text is the listing of one set of tables at most, or has one first bad line at most.
-use Rattle.std.proofs.Common.{◌≡◌, ℕ, ◌+◌, List, [], ◌∷◌, ◌++◌, length, map, sym, refl, ap, ◌∙◌, subst, append_assoc, append-nil, arith}
+use Rattle.std.proofs.Common.{◌≡◌, ℕ, ◌+◌, List, [], ◌∷◌, ◌++◌, map, sym, refl, ap, ◌∙◌, subst, append_assoc, arith}
 use Rattle.std.specs.List.{AllByRecursion, flat_map}
 use Rattle.mpt_spec.specs.declared.pointer.Pointer.{Pointer}
 use Rattle.mpt_spec.specs.declared.entry.Base.{Base}
@@ -10,57 +10,21 @@ use Rattle.mpt_spec.specs.declared.tables.Tables.{Tables}
 use Rattle.mpt_spec.specs.Values.{IsBaseValue, IsBodyValue}
 use Rattle.mpt_listing.specs.Listing.{pointer_line, header_line, base_line, ext_line, body_lines, listing_of}
 use Rattle.mpt_parse.specs.declared.fault.LineWhy.{LineWhy}
-use Rattle.mpt_parse.specs.declared.fault.LineWhy.TheVariants as why
-use Rattle.mpt_parse.specs.Listings.{title_line, end_line, lines_behind, lines_of, HasRightBody, IsListing, IsListingOf, IsLongestValidPrefix, IsBadBecause, IsFirstBadLine, IsWholeLine}
+use Rattle.mpt_parse.specs.Listings.{title_line, end_line, lines_behind, lines_of, HasRightBody, IsListing, IsListingOf, IsLongestValidPrefix, IsFirstBadLine, IsWholeLine}
 use Rattle.mpt_line.specs.Lines.{IsRightExt, table_with}
 use Rattle.mpt_line.proofs.CallerLemmas.{base_line-one, ext_line-one, pointer_text-one, header_text-one}
 use Rattle.mpt_parse.proofs.EntryLines.{base_kind, ext_kind, other_kind, head_is, tail_is, regroup}
-use Rattle.mpt_parse.proofs.TableLines.{head_of, right_head, right_exts}
+use Rattle.mpt_parse.proofs.TableLines.{head_of, head_text, table_again, right_head, right_exts}
 use Rattle.mpt_parse.proofs.ListingLines.{tables_of, placed, right_pointer}
-use Rattle.mpt_parse.proofs.WholeLines.{lines_whole, one_first_line, no_empty_line}
-
--- the longest prefix is one, where all lines are whole
-prefix_one : (L : List (List ℕ) → Type 0) → ((ls : List (List ℕ)) → L ls → AllByRecursion IsWholeLine ls) → (g h : List (List ℕ)) (text r s : List ℕ) → IsLongestValidPrefix L g text r → IsLongestValidPrefix L h text s → (g ≡ h) × (r ≡ s)
-prefix_one L whole [] [] text r s p q = (refl, sym p.whole ∙ q.whole)
-prefix_one L whole [] (y ∷ h) text r s p q =
-    absurd (p.longest y (flat_map (λ l. l) h ++ s) (h ++ q.begins.0) (sym p.whole ∙ q.whole ∙ append_assoc y (flat_map (λ l. l) h) s) q.begins.1)
-prefix_one L whole (x ∷ g) [] text r s p q =
-    absurd (q.longest x (flat_map (λ l. l) g ++ r) (g ++ p.begins.0) (sym q.whole ∙ p.whole ∙ append_assoc x (flat_map (λ l. l) g) r) p.begins.1)
-prefix_one L whole (x ∷ g) (y ∷ h) text r s p q =
-    let a : List ℕ = flat_map (λ l. l) g ++ r in
-    let b : List ℕ = flat_map (λ l. l) h ++ s in
-    let both_are : x ++ a ≡ y ++ b = sym (append_assoc x (flat_map (λ l. l) g) r) ∙ sym p.whole ∙ q.whole ∙ append_assoc y (flat_map (λ l. l) h) s in
-    let o = one_first_line x y a b (whole (x ∷ (g ++ p.begins.0)) p.begins.1).0 (whole (y ∷ (h ++ q.begins.0)) q.begins.1).0 both_are in
-    let more : (g ≡ h) × (r ≡ s) =
-    prefix_one (λ ls. L (x ∷ ls)) (λ ls m. (whole (x ∷ ls) m).1) g h a r s
-    (record { whole = refl; begins = p.begins; longest = p.longest })
-    (record {
-      whole = o.1;
-      begins = (q.begins.0, subst (λ (z : List ℕ). L (z ∷ (h ++ q.begins.0))) (sym o.0) q.begins.1);
-      longest = λ next follow ls e m. q.longest next follow ls e (subst (λ (z : List ℕ). L (z ∷ (h ++ next ∷ ls))) o.0 m);
-    }) in
-    ((λ i. o.0 i ∷ more.0 i), more.1)
+use Rattle.mpt_parse.proofs.WholeLines.{lines_whole}
+use Rattle.mpt_parse.proofs.BadLines.{prefix_one, one_bad_line, member_prefix, member_is_not_bad}
 
 pub listing_whole : (ls : List (List ℕ)) → IsListing ls → AllByRecursion IsWholeLine ls
 listing_whole ls (t, h, e) = subst (λ (x : List (List ℕ)). AllByRecursion IsWholeLine x) (sym e) (lines_whole t)
 
 -- a text has one first bad line at most
-same_why : (w v : LineWhy) (A : Type 0) (r : List ℕ) → IsBadBecause w A r → IsBadBecause v A r → w ≡ v
-same_why why.Form why.Form A r h k = refl
-same_why why.Form why.Early A r h k = absurd (h.1 k.1)
-same_why why.Form why.Late A r h k = absurd (h.0 k.0)
-same_why why.Early why.Form A r h k = absurd (k.1 h.1)
-same_why why.Early why.Early A r h k = refl
-same_why why.Early why.Late A r h k = absurd (h.0 k.0)
-same_why why.Late why.Form A r h k = absurd (k.0 h.0)
-same_why why.Late why.Early A r h k = absurd (k.0 h.0)
-same_why why.Late why.Late A r h k = refl
-
 pub bad_line_is_one : (text : List ℕ) (n m : ℕ) (w v : LineWhy) → IsFirstBadLine IsListing text n w → IsFirstBadLine IsListing text m v → (n ≡ m) × (w ≡ v)
-bad_line_is_one text n m w v (g, r, p, e, a) (h, s, q, k, b) =
-    let o = prefix_one IsListing listing_whole g h text r s p q in
-    let c : IsBadBecause v (IsListing g) r = subst (λ (x : List (List ℕ)). IsBadBecause v (IsListing x) r) (sym o.0) (subst (λ (x : List ℕ). IsBadBecause v (IsListing h) x) (sym o.1) b) in
-    (e ∙ ap (λ (x : List (List ℕ)). length x + 1) o.0 ∙ sym k, same_why w v (IsListing g) r a c)
+bad_line_is_one text n m w v h k = one_bad_line IsListing listing_whole text n m w v h k
 
 -- the lines are those of the text
 lines_joined : {E : Type 0} (show : E → List ℕ) (es : List E) (ls : List (List ℕ)) → flat_map (λ l. l) (map show es ++ ls) ≡ flat_map show es ++ flat_map (λ l. l) ls
@@ -76,33 +40,12 @@ behind_joined (body.Listed t) =
 pub lines_make_the_listing : (t : Tables) → flat_map (λ l. l) (lines_of t) ≡ listing_of t
 lines_make_the_listing t = ap (λ x. title_line ++ (pointer_line t ++ x)) (behind_joined t.body) ∙ regroup title_line (pointer_line t) (body_lines t.body) end_line
 
--- a whole listing is its own longest prefix
-pub empty_front : (x y : List ℕ) → [] ≡ x ++ y → x ≡ []
-empty_front [] y e = refl
-empty_front (c ∷ x) y e = absurd (cc (e))
-
-pub whole_at : (xs : List (List ℕ)) (y : List ℕ) (ys : List (List ℕ)) → AllByRecursion IsWholeLine (xs ++ y ∷ ys) → IsWholeLine y
-whole_at [] y ys h = h.0
-whole_at (x ∷ xs) y ys h = whole_at xs y ys h.1
-
+-- a whole listing is its own longest prefix, and has no bad line
 pub listing_prefix : (t : Tables) (text : List ℕ) → IsListingOf t text → IsLongestValidPrefix IsListing (lines_of t) text []
-listing_prefix t text h = record {
-  whole = h.1 ∙ sym (lines_make_the_listing t) ∙ sym (append-nil (flat_map (λ l. l) (lines_of t)));
-  begins = ([], (t, h.0, append-nil (lines_of t)));
-  longest = λ next follow more e m.
-      no_empty_line (subst (λ (x : List ℕ). IsWholeLine x) (empty_front next follow e) (whole_at (lines_of t) next more (listing_whole (lines_of t ++ next ∷ more) m)));
-}
-
--- a listing has no bad line
-not_bad : (w : LineWhy) (A : Type 0) → A → IsBadBecause w A [] → ⊥
-not_bad why.Form A a h = h.0 a
-not_bad why.Early A a h = h.0 a
-not_bad why.Late A a h = h.1 refl
+listing_prefix t text h = member_prefix IsListing listing_whole (lines_of t) text (t, h.0, refl) (h.1 ∙ sym (lines_make_the_listing t))
 
 pub listing_is_not_bad : (t : Tables) (text : List ℕ) (n : ℕ) (w : LineWhy) → IsListingOf t text → IsFirstBadLine IsListing text n w → ⊥
-listing_is_not_bad t text n w h (g, r, p, e, b) =
-    let o = prefix_one IsListing listing_whole g (lines_of t) text r [] p (listing_prefix t text h) in
-    not_bad w (IsListing (lines_of t)) (t, h.0, refl) (subst (λ (x : List (List ℕ)). IsBadBecause w (IsListing x) []) o.0 (subst (λ (x : List ℕ). IsBadBecause w (IsListing g) x) o.1 b))
+listing_is_not_bad t text n w h k = member_is_not_bad IsListing listing_whole (lines_of t) text n w (t, h.0, refl) (h.1 ∙ sym (lines_make_the_listing t)) k
 
 -- two sets of entries with the same lines are one
 exts_one : (es fs : List Ext) → AllByRecursion IsRightExt es → AllByRecursion IsRightExt fs → map ext_line es ++ end_line ∷ [] ≡ map ext_line fs ++ end_line ∷ [] → es ≡ fs
@@ -137,10 +80,11 @@ body_one (body.Default n) (body.Default m) p h k v w e = ap body.Default (sym h.
 body_one (body.Default n) (body.Listed t) p h k v w e = absurd (omega (arith, h.0, h.1, k.0))
 body_one (body.Listed t) (body.Default m) p h k v w e = absurd (omega (arith, k.0, k.1, h.0))
 body_one (body.Listed t) (body.Listed u) p h k v w e =
-    let head : head_of t ≡ head_of u = header_text-one (head_of t) (head_of u) (right_head t (v, h.2, h.3)) (right_head u (w, k.2, k.3)) (head_is (header_line t) (header_line u) (map base_line t.base ++ tail_of t.ext) (map base_line u.base ++ tail_of u.ext) e) in
+    let head : head_of t ≡ head_of u = header_text-one (head_of t) (head_of u) (right_head t (v, h.2, h.3)) (right_head u (w, k.2, k.3)) (head_text t h.2 ∙ head_is (header_line t) (header_line u) (map base_line t.base ++ tail_of t.ext) (map base_line u.base ++ tail_of u.ext) e ∙ sym (head_text u k.2)) in
     let rest = entries_one t.base u.base t.ext u.ext v.base w.base (right_exts t.ext v.ext h.3) (right_exts u.ext w.ext k.3)
     (tail_is (header_line t) (header_line u) (map base_line t.base ++ tail_of t.ext) (map base_line u.base ++ tail_of u.ext) e) in
-    (λ i. body.Listed (table_with (head i) (rest.0 i) (rest.1 i)))
+    let same : table_with (head_of t) t.base t.ext ≡ table_with (head_of u) u.base u.ext = λ i. table_with (head i) (rest.0 i) (rest.1 i) in
+    ap body.Listed (sym (table_again t h.2) ∙ same ∙ table_again u k.2)
 
 -- tables with one listing are one
 pub listing_is_one : (t u : Tables) (text : List ℕ) → IsListingOf t text → IsListingOf u text → t ≡ u

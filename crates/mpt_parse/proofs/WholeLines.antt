@@ -12,19 +12,21 @@ use Rattle.mpt_spec.specs.declared.tables.Table.{Table}
 use Rattle.mpt_spec.specs.declared.tables.Body.{Body}
 use Rattle.mpt_spec.specs.declared.tables.Body.TheVariants as body
 use Rattle.mpt_spec.specs.declared.tables.Tables.{Tables}
+use Rattle.mpt_spec.specs.Revision.{by_revision}
+use Rattle.mpt_spec.proofs.RevisionLemmas.{by_revision-both}
 use Rattle.mpt_listing.specs.Listing.{hex, hex_digit, hex_bytes, is_plain_byte, quoted_byte, quoted, rest_field, line, pointer_line, header_line, interrupt_line, base_line, ext_line}
 use Rattle.mpt_parse.specs.Listings.{HasNoFeed, IsWholeLine, end_line, lines_behind, lines_of}
 
-joined : (xs ys : List ℕ) → HasNoFeed xs → HasNoFeed ys → HasNoFeed (xs ++ ys)
+pub joined : (xs ys : List ℕ) → HasNoFeed xs → HasNoFeed ys → HasNoFeed (xs ++ ys)
 joined [] ys p q = q
 joined (x ∷ xs) ys p q = (p.0, joined xs ys p.1 q)
 
 -- a text that a test looks through
-abbrev has_no_feed : List ℕ → Bool
+abbrev pub has_no_feed : List ℕ → Bool
 has_no_feed [] = true
 has_no_feed (c ∷ cs) = not (c == 10) && has_no_feed cs
 
-text_ok : (xs : List ℕ) → has_no_feed xs ≡ true → HasNoFeed xs
+pub text_ok : (xs : List ℕ) → has_no_feed xs ≡ true → HasNoFeed xs
 text_ok [] h = tt
 text_ok (c ∷ cs) h = (one c (has_no_feed cs) h, text_ok cs (others c (has_no_feed cs) h))
   where
@@ -37,7 +39,7 @@ text_ok (c ∷ cs) h = (one c (has_no_feed cs) h, text_ok cs (others c (has_no_f
 digit_ok : (n : ℕ) → hex_digit n ≢ 10
 digit_ok n e = grind (arith, nat_tests)
 
-hex_ok : (k n : ℕ) → HasNoFeed (hex k n)
+pub hex_ok : (k n : ℕ) → HasNoFeed (hex k n)
 unfolding hex
 hex_ok zero n = tt
 hex_ok (suc k) n = joined (hex k (n / 16)) (hex_digit (n % 16) ∷ []) (hex_ok k (n / 16)) (digit_ok (n % 16), tt)
@@ -69,7 +71,7 @@ rest_ok [] = text_ok (codes "-") refl
 rest_ok (b ∷ bytes) = bytes_ok (b ∷ bytes)
 
 -- parts without line feeds make a whole line
-whole : (parts : List (List ℕ)) → AllByRecursion HasNoFeed parts → IsWholeLine (line parts)
+pub whole : (parts : List (List ℕ)) → AllByRecursion HasNoFeed parts → IsWholeLine (line parts)
 whole [] h = ([], refl, tt)
 whole (p ∷ ps) h = let w = whole ps h.1 in (p ++ w.0, ap (λ x. p ++ x) w.1 ∙ sym (append_assoc p w.0 (10 ∷ [])), joined p w.0 h.0 w.2)
 
@@ -158,8 +160,10 @@ pointer_whole t =
 
 header_whole : (t : Table) → IsWholeLine (header_line t)
 header_whole t =
+    let name : HasNoFeed (by_revision t.revision (codes " old ") (codes " reserved ")) = by_revision-both HasNoFeed t.revision (codes " old ") (codes " reserved ") (text_ok (codes " old ") refl) (text_ok (codes " reserved ") refl) in
+    let field : HasNoFeed (by_revision t.revision (hex_bytes t.old) (hex 2 t.reserved)) = by_revision-both HasNoFeed t.revision (hex_bytes t.old) (hex 2 t.reserved) (bytes_ok t.old) (hex_ok 2 t.reserved) in
     whole (codes "header revision " ∷ hex 2 t.revision ∷ codes " oem " ∷ quoted t.oem ∷ codes " product " ∷ quoted t.product ∷ codes " oemtable " ∷ hex 8 t.oem_table ∷ codes " oemsize " ∷ hex 4 t.oem_size
-    ∷ codes " local " ∷ hex 8 t.local_address ∷ codes " reserved " ∷ hex 2 t.reserved ∷ []) (
+    ∷ codes " local " ∷ hex 8 t.local_address ∷ by_revision t.revision (codes " old ") (codes " reserved ") ∷ by_revision t.revision (hex_bytes t.old) (hex 2 t.reserved) ∷ []) (
       text_ok (codes "header revision ") refl,
       (
         hex_ok 2 t.revision,
@@ -175,7 +179,7 @@ header_whole t =
                   text_ok (codes " oemtable ") refl,
                   (
                     hex_ok 8 t.oem_table,
-                    (text_ok (codes " oemsize ") refl, (hex_ok 4 t.oem_size, (text_ok (codes " local ") refl, (hex_ok 8 t.local_address, (text_ok (codes " reserved ") refl, (hex_ok 2 t.reserved, tt)))))),
+                    (text_ok (codes " oemsize ") refl, (hex_ok 4 t.oem_size, (text_ok (codes " local ") refl, (hex_ok 8 t.local_address, (name, (field, tt)))))),
                   ),
                 ),
               ),

@@ -8,9 +8,10 @@ use Rattle.mpt_spec.specs.declared.tables.Table.{Table}
 use Rattle.mpt_spec.specs.declared.tables.Body.{Body}
 use Rattle.mpt_spec.specs.declared.tables.Body.TheVariants as body
 use Rattle.mpt_spec.specs.declared.tables.Tables.{Tables}
-use Rattle.mpt_spec.specs.Canonical.{IsLawfulExt}
+use Rattle.mpt_spec.specs.Canonical.{IsLawfulExt, HasFieldsOfRevision}
 use Rattle.mpt_spec.specs.Values.{IsBaseValue, IsTableValue, IsBodyValue}
 use Rattle.mpt_listing.specs.Listing.{pointer_line, base_line, ext_line, body_lines}
+use Rattle.mpt_line.specs.declared.heads.HeaderLine.{HeaderLine}
 use Rattle.mpt_line.specs.Lines.{IsRightExt, BeginsWithNone}
 use Rattle.mpt_parse.specs.declared.fault.LineWhy.{LineWhy}
 use Rattle.mpt_parse.specs.declared.fault.LineWhy.TheVariants as why
@@ -22,17 +23,22 @@ use Rattle.mpt_parse.specs.Listings.{end_line, lines_behind, HasRightValues, Has
 abbrev pub IsEnd : List (List ℕ) → Type 0
 IsEnd ls = ls ≡ end_line ∷ []
 
--- behind all base entries
-abbrev pub AreExtLines : List (List ℕ) → Type 0
-AreExtLines ls = (es : List Ext) × AllByRecursion IsRightExt es × (ls ≡ map ext_line es ++ end_line ∷ [])
+-- an extended entry that may follow a header: a right one, and none at revision 1
+pub record MayFollow (head : HeaderLine) (e : Ext) : Type 0 where
+  pub revision : head.revision ≢ 1
+  pub right : IsRightExt e
 
--- behind the header
-abbrev pub AreEntryLines : List (List ℕ) → Type 0
-AreEntryLines ls = (bs : List Base) × (es : List Ext) × AllByRecursion IsBaseValue bs × AllByRecursion IsRightExt es × (ls ≡ map base_line bs ++ (map ext_line es ++ end_line ∷ []))
+-- behind this header and all base entries
+abbrev pub AreExtLines : HeaderLine → List (List ℕ) → Type 0
+AreExtLines head ls = (es : List Ext) × AllByRecursion (MayFollow head) es × (ls ≡ map ext_line es ++ end_line ∷ [])
+
+-- behind this header
+abbrev pub AreEntryLines : HeaderLine → List (List ℕ) → Type 0
+AreEntryLines head ls = (bs : List Base) × (es : List Ext) × AllByRecursion IsBaseValue bs × AllByRecursion (MayFollow head) es × (ls ≡ map base_line bs ++ (map ext_line es ++ end_line ∷ []))
 
 -- a table whose lines are right
 abbrev pub IsRightTable : Table → Type 0
-IsRightTable t = IsTableValue t × (t.revision ≡ 4) × AllByRecursion IsLawfulExt t.ext
+IsRightTable t = IsTableValue t × HasFieldsOfRevision t × AllByRecursion IsLawfulExt t.ext
 
 -- behind the line of a floating pointer that names a table
 abbrev pub AreTableLines : List (List ℕ) → Type 0

@@ -15,7 +15,8 @@ use Rattle.mpt_spec.specs.declared.tables.Body.{Body}
 use Rattle.mpt_spec.specs.declared.tables.Body.TheVariants as body
 use Rattle.mpt_spec.specs.declared.tables.Tables.{Tables}
 use Rattle.mpt_spec.specs.Table.{default_number}
-use Rattle.mpt_spec.specs.Canonical.{IsLawfulExt, block_size, FitsInImage}
+use Rattle.mpt_spec.specs.Revision.{IsKnownRevision}
+use Rattle.mpt_spec.specs.Canonical.{IsLawfulExt, HasFieldsOfRevision, block_size, FitsInImage}
 use Rattle.mpt_spec.specs.Values.{IsTablesValue}
 use Rattle.mpt_listing.specs.Listing.{line, pointer_line, header_line, base_line, ext_line, listing_of}
 use Rattle.mpt_parse.specs.declared.fault.LineWhy.{LineWhy}
@@ -23,16 +24,17 @@ use Rattle.mpt_parse.specs.declared.fault.LineWhy.TheVariants as why
 use Rattle.mpt_parse.specs.declared.fault.ListingFault.{ListingFault}
 use Rattle.mpt_parse.specs.declared.fault.ListingFault.TheVariants as fault
 
--- feature byte 1 says the number of a default configuration, or 0 with the address of a table of revision 4 with lawful entries
+-- feature byte 1 says the number of a default configuration, or 0 with the address of a table that has the fields of its
+-- revision, so no extended entries at revision 1, and lawful entries
 abbrev pub HasRightBody : Body → Pointer → Type 0
 HasRightBody (body.Default n) p = (default_number p ≡ n) × (1 ≤ n) × (n ≤ 7)
-HasRightBody (body.Listed t) p = (default_number p ≡ 0) × (p.address ≢ 0) × (t.revision ≡ 4) × AllByRecursion IsLawfulExt t.ext
+HasRightBody (body.Listed t) p = (default_number p ≡ 0) × (p.address ≢ 0) × HasFieldsOfRevision t × AllByRecursion IsLawfulExt t.ext
 
--- the tables have a listing: eight digits hold their place, the fields fit, and the values are those of specification 1.4
+-- the tables have a listing: eight digits hold their place, the fields fit, and the values are right
 pub record HasRightValues (tables : Tables) : Type 0 where
   pub at : tables.at < 2 ^ 32
   pub fields : IsTablesValue tables
-  pub revision : tables.pointer.revision ≡ 4
+  pub revision : IsKnownRevision tables.pointer.revision
   pub body : HasRightBody tables.body tables.pointer
 
 -- the first and the last line

@@ -6,14 +6,14 @@ ghost use Rattle.mpt_spec.specs.declared.tables.Tables.{Tables as TablesOf};
 ghost use Rattle.mpt_spec.specs.Table.{default_number};
 ghost use Rattle.mpt_spec.specs.Canonical.{FitsInImage, block_size};
 ghost use Rattle.mpt_spec.specs.Values.{IsBodyValue};
-ghost use Rattle.mpt_line.specs.Lines.{table_with};
+ghost use Rattle.mpt_line.specs.Lines.{reserved_of, old_of, table_with};
 ghost use Rattle.mpt_parse.specs.declared.fault.LineWhy.{LineWhy as WhyOf};
 ghost use Rattle.mpt_parse.specs.Listings.{end_line, HasRightBody, IsListing, IsListingOf, IsFirstBadLine, IsCauseOf, AnswersTables, AnswersUnfit, AnswersLine};
 ghost use Rattle.mpt_parse.specs.Languages.{IsUnfinished, IsFaultBehind, IsEnd, IsRightTable, AreTableLines, AreBodyLines, behind_text};
 
-use crate::entries::{read_base_lines, read_ext_lines};
+use crate::entries::{read_base_lines, read_ext_part};
 use crate::fault::{LineWhy, ListingFault};
-use mpt_line::{HeaderLine, read_header_line, read_pointer_line, read_text};
+use mpt_line::{HeaderEnd, HeaderLine, read_header_line, read_pointer_line, read_text};
 use mpt_spec::{Base, Body, Ext, Pointer, Sequence, Table, Tables};
 use mpt_write::{block_bytes, fits};
 use std::alloc::Global;
@@ -120,7 +120,7 @@ fn read_table(alloc: Global, text: &[u8]) -> Result<Table, ListingFault>
     let Ok((base, rest)) = read_base_lines(alloc, rest) else {
         return Err(ListingFault::NoMemory);
     };
-    let Ok((ext, rest)) = read_ext_lines(alloc, rest) else {
+    let Ok((ext, rest)) = read_ext_part(alloc, &header, rest) else {
         return Err(ListingFault::NoMemory);
     };
     match end_fault((3 + base.len() + ext.len()) as u32, rest) {
@@ -132,6 +132,7 @@ fn read_table(alloc: Global, text: &[u8]) -> Result<Table, ListingFault>
 fn table_with(header: &HeaderLine, base: Vec<Base>, ext: Vec<Ext>) -> Table
     ensures { result ≡ table_with header.now base.items ext.items }
 {
+    let (reserved, old) = bytes_of(&header.end);
     Table {
         revision: header.revision,
         oem: header.oem,
@@ -139,9 +140,21 @@ fn table_with(header: &HeaderLine, base: Vec<Base>, ext: Vec<Ext>) -> Table
         oem_table: header.oem_table,
         oem_size: header.oem_size,
         local_address: header.local_address,
-        reserved: header.reserved,
+        reserved,
+        old,
         base: Sequence::new(base),
         ext: Sequence::new(ext),
+    }
+}
+
+// The reserved byte and the bytes 40 to 43 that the last field of the header says
+fn bytes_of(end: &HeaderEnd) -> (u8, [u8; 4])
+    ensures reserved { result.0 ≡ reserved_of end.now }
+    ensures old { result.1 ≡ old_of end.now }
+{
+    match *end {
+        HeaderEnd::Reserved(byte) => (byte, [0; 4]),
+        HeaderEnd::Old(bytes) => (0, bytes),
     }
 }
 

@@ -1,4 +1,6 @@
--- What private functions cite: tables by id, and an entry's answer by itself.
+-- Tables by id, and an entry's answer by itself.
+--     IsTableOf n table f     the member of the table at each id below n is what f gives of it
+--     own_answer              cited by private functions alone, as row_unless is
 use Rattle.std.specs.Prelude.{◌≡◌, ℕ, ◌<◌, List, length, find, Option, Some, None, Result, Ok, Err, slice_index_or}
 use Rattle.mpt_spec.specs.declared.entry.IntEntry.{IntEntry}
 use Rattle.mpt_route.specs.declared.bus.BusKind.{BusKind}

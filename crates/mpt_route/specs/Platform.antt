@@ -2,7 +2,8 @@
 -- default configuration (chapter 5).
 --     platform_of tables        the platform of the tables
 --     boot_processor_of p       the first processor with EN and BP (section 4.3.1)
-use Rattle.std.specs.Prelude.{◌==◌, ◌/◌, ◌%◌, Bool, Option, Some, None, filter_map, find, slice_index}
+--     IsSmallPlatform p         the platform has fewer than 32,768 entries of each kind
+use Rattle.std.specs.Prelude.{◌==◌, ◌/◌, ◌%◌, ◌<◌, Bool, length, Option, Some, None, filter_map, find, slice_index}
 use Rattle.mpt_spec.specs.declared.entry.Processor.{Processor}
 use Rattle.mpt_spec.specs.declared.entry.Bus.{Bus}
 use Rattle.mpt_spec.specs.declared.entry.IoApic.{IoApic}
@@ -12,6 +13,7 @@ use Rattle.mpt_spec.specs.declared.entry.Base.TheVariants as base
 use Rattle.mpt_spec.specs.declared.tables.Body.{Body}
 use Rattle.mpt_spec.specs.declared.tables.Body.TheVariants as body
 use Rattle.mpt_spec.specs.declared.tables.Tables.{Tables}
+pub use Rattle.mpt_spec.specs.Flags.{is_boot_processor}
 use Rattle.mpt_route.specs.declared.platform.Platform.{Platform}
 use Rattle.mpt_route.specs.Defaults.{default_row, default_processors, default_buses, default_ios, default_ints, default_lints}
 
@@ -61,9 +63,14 @@ platform_of_body imcr (body.Default n) = record {
 abbrev pub platform_of : Tables → Platform
 platform_of t = platform_of_body (slice_index t.pointer.features 1 / 128 % 2 == 1) t.body
 
--- bit 0 of the flags is EN, bit 1 BP
-abbrev pub is_boot_processor : Processor → Bool
-is_boot_processor e = e.flags % 4 == 3
-
+-- the first processor with EN and BP
 abbrev pub boot_processor_of : Platform → Option Processor
 boot_processor_of p = find is_boot_processor p.processors
+
+-- the platform has fewer than 32,768 entries of each kind
+pub record IsSmallPlatform (p : Platform) : Type 0 where
+  pub processors : length p.processors < 32768
+  pub buses : length p.buses < 32768
+  pub ios : length p.ios < 32768
+  pub ints : length p.ints < 32768
+  pub lints : length p.lints < 32768

@@ -8,7 +8,7 @@
 --     taken_by io pin earlier      the low word that an earlier answer has on a pin
 --     has_reason b place taken low e why   whether a reason holds of an entry
 --     routes_of p elcr             the answers to all entries
-use Rattle.std.specs.Prelude.{ℕ, ◌==◌, ◌&&◌, not, nat_lt, ◌+◌, ◌*◌, ◌%◌, ◌^◌, Bool, true, false, if◌then◌else◌, List, [], ◌∷◌, ◌++◌, length, take, filter, find, position, fold, Option, Some, None, is_none, unwrap_or, option_map}
+use Rattle.std.specs.Prelude.{ℕ, ◌==◌, ◌&&◌, not, nat_lt, ◌+◌, ◌*◌, ◌^◌, Bool, true, false, if◌then◌else◌, List, [], ◌∷◌, ◌++◌, length, take, filter, find, position, fold, Option, Some, None, is_none, unwrap_or, option_map}
 use Rattle.std.specs.Option.{option_or}
 use Rattle.mpt_spec.specs.declared.entry.Processor.{Processor}
 use Rattle.mpt_spec.specs.declared.entry.Bus.{Bus}
@@ -25,7 +25,8 @@ use Rattle.mpt_route.specs.declared.route.Why.{Why}
 use Rattle.mpt_route.specs.declared.route.Why.TheVariants as why
 use Rattle.mpt_route.specs.declared.route.Answer.{Answer}
 use Rattle.mpt_route.specs.declared.route.Answer.TheVariants as answer
-use Rattle.mpt_route.specs.Platform.{is_boot_processor}
+use Rattle.mpt_spec.specs.Flags.{is_boot_processor}
+pub use Rattle.mpt_spec.specs.Flags.{is_enabled_io_apic as is_enabled}
 use Rattle.mpt_route.specs.Sense.{bus_kind_of, is_level_low, is_low, is_level, is_reserved, conforms}
 
 -- the high word of every row: the boot processor's id in bits 31 to 24, 0 where there is none
@@ -35,10 +36,6 @@ high_word_of processors = unwrap_or (option_map (λ e. 2 ^ 24 * e.apic) (find is
 -- the type of a bus, by the first entry with its id
 abbrev pub bus_kind_in : List Bus → ℕ → Option BusKind
 bus_kind_in buses id = option_map (λ b. bus_kind_of b.name) (find (λ b. b.id == id) buses)
-
--- bit 0 of the flags is EN (section 4.3.3)
-abbrev pub is_enabled : IoApic → Bool
-is_enabled io = io.flags % 2 == 1
 
 -- the place of an id among the first four enabled I/O APICs
 abbrev pub io_place_in : List IoApic → ℕ → Option ℕ

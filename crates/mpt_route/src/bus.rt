@@ -19,7 +19,7 @@ pub enum BusKind {
     Other,
 }
 
-// the type of a bus by its name
+/// The type of a bus by its name.
 pub fn bus_kind(name: [u8; 6]) -> BusKind
     ensures { result ≡ bus_kind_of name }
 {

@@ -6,7 +6,7 @@ ghost use Rattle.mpt_route.specs.Platform.{platform_of_body};
 ghost use Rattle.mpt_spec.specs.declared.tables.Body.TheVariants as body;
 
 use crate::platform::Platform;
-use mpt_spec::{Bus, IntEntry, IoApic, Processor, Sequence};
+use mpt_spec::{ALL_APICS, Bus, IntEntry, IoApic, Processor, Sequence};
 use std::alloc::{AllocError, Global};
 
 /// A row of the table of default configurations.
@@ -137,8 +137,8 @@ pub fn default_platform(alloc: Global, number: u8, imcr: bool) -> Result<Platfor
         address: 0xFEC0_0000,
     })?;
     let mut lints = Vec::new(alloc);
-    lints.push(interrupt(3, 0, 0xFF, 0))?;
-    lints.push(interrupt(1, 0, 0xFF, 1))?;
+    lints.push(interrupt(3, 0, ALL_APICS, 0))?;
+    lints.push(interrupt(1, 0, ALL_APICS, 1))?;
     Ok(Platform {
         processors: Sequence::new(processors),
         buses: Sequence::new(buses(alloc, row)?),

@@ -10,7 +10,7 @@ mod platform;
 mod route;
 mod routing;
 
-pub use bus::BusKind;
+pub use bus::{BusKind, bus_kind};
 pub use platform::{Platform, boot_processor_of, platform_of};
 pub use route::{Answer, Route, Why};
-pub use routing::routes;
+pub use routing::{first_buses, routes};

@@ -1,7 +1,7 @@
 //! The platform: what a kernel asks of the tables, the entries by kind.
 
-ghost use Rattle.std.specs.Prelude.{◌≡◌, ◌<◌, ◌^◌, length, IfOk, find};
-ghost use Rattle.mpt_route.specs.Platform.{platform_of, platform_of_body, is_boot_processor, boot_processor_of};
+ghost use Rattle.std.specs.Prelude.{◌≡◌, IfOk, find};
+ghost use Rattle.mpt_route.specs.Platform.{platform_of, platform_of_body, is_boot_processor, boot_processor_of, IsSmallPlatform};
 ghost use Rattle.mpt_spec.specs.Canonical.{IsWellFormed};
 ghost use Rattle.mpt_spec.specs.declared.tables.Body.TheVariants as body;
 
@@ -34,7 +34,7 @@ pub struct Platform {
 pub fn platform_of(alloc: Global, tables: &Tables) -> Result<Platform, NoMemory>
     requires { IsWellFormed tables.now }
     ensures platform { IfOk result (λ p. p ≡ platform_of tables.now) }
-    ensures few { IfOk result (λ p. length p.ints < 2 ^ 16) }
+    ensures small { IfOk result (λ p. IsSmallPlatform p) }
 {
     let imcr = tables.pointer.features[1] / 128 % 2 == 1;
     match platform_of_body(alloc, &tables.body, imcr) {
@@ -91,5 +91,5 @@ pub fn boot_processor_of(p: &Platform) -> Option<Processor>
 fn first_boot_processor(processors: &[Processor]) -> Option<Processor>
     ensures { result ≡ find is_boot_processor processors.now }
 {
-    processors.iter().find(|e| e.flags % 4 == 3).copied()
+    processors.iter().find(|e| e.is_boot_processor()).copied()
 }

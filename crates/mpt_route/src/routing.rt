@@ -13,7 +13,7 @@ use crate::pins::{Lows, settle};
 use crate::platform::{Platform, boot_processor_of};
 use crate::route::{Answer, Route, Why};
 use mpt_base::NoMemory;
-use mpt_spec::{Bus, IntEntry, IoApic, Kind, Polarity, Trigger};
+use mpt_spec::{ALL_APICS, Bus, IO_APIC_PINS, IntEntry, IoApic, Kind, Polarity, Trigger};
 use std::alloc::{AllocError, Global};
 
 /// The routes of a platform: an answer to each I/O interrupt entry, in order. Bit n of `elcr` is set
@@ -69,8 +69,9 @@ fn no_buses(alloc: Global, ids: usize) -> Result<Vec<Option<BusKind>>, AllocErro
     vec![in alloc; None; ids]
 }
 
-// the type of the first bus with each id
-fn first_buses(alloc: Global, buses: &[Bus]) -> Result<Vec<Option<BusKind>>, AllocError>
+/// For each id from 0 to 255 the type of the first bus with it, `None` where no bus has it. It fails only
+/// where memory runs out.
+pub fn first_buses(alloc: Global, buses: &[Bus]) -> Result<Vec<Option<BusKind>>, AllocError>
     ensures { IfOk result (λ table. IsTableOf 256 table.items (bus_kind_in buses.now)) }
 {
     let mut table = no_buses(alloc, 256)?;
@@ -89,7 +90,7 @@ fn routable_ids(alloc: Global, ios: &[IoApic]) -> Result<Vec<u8>, AllocError>
     ensures few { IfOk result (λ ids. vec_len ids ≤ 4) }
 {
     ios.iter()
-        .filter(|io| io.flags % 2 == 1)
+        .filter(|io| io.is_enabled())
         .take(4)
         .map(|io| io.id)
         .collect(alloc)
@@ -139,7 +140,7 @@ fn own_answer(
     ensures place { IfOk result (λ row. row.io < 4) }
     ensures pin { IfOk result (λ row. row.pin < 24) }
 {
-    if e.dest == 0xFF {
+    if e.dest == ALL_APICS {
         return Err(Why::DestWide);
     }
     let Some(bus) = bus else {
@@ -148,7 +149,7 @@ fn own_answer(
     let Some(io) = place else {
         return Err(Why::UnknownIo);
     };
-    if e.pin > 23 {
+    if e.pin >= IO_APIC_PINS {
         return Err(Why::PinRange);
     }
     let Some(kind) = e.int_kind() else {
@@ -233,7 +234,7 @@ fn vector(kind: Kind, io: u8, pin: u8) -> u8
     ensures { result ≡ vector_of kind io pin }
 {
     match kind {
-        Kind::Int => 0x20 + 24 * io + pin,
+        Kind::Int => 0x20 + IO_APIC_PINS * io + pin,
         Kind::Nmi | Kind::Smi | Kind::ExtInt => 0,
     }
 }

@@ -2,7 +2,10 @@
 
 ghost use Rattle.std.specs.Prelude.{◌≡◌, ◌<◌, ℕ, List, Some, slice_get, All};
 ghost use Rattle.mpt_spec.specs.declared.entry.IntEntry.{IntEntry};
+ghost use Rattle.mpt_spec.specs.declared.tables.Tables.{Tables};
+ghost use Rattle.mpt_spec.specs.Canonical.{raised_of};
 ghost use Rattle.mpt_route.specs.declared.platform.Platform.{Platform};
+ghost use Rattle.mpt_route.specs.Platform.{platform_of};
 ghost use Rattle.mpt_route.specs.declared.route.Route.{Route};
 ghost use Rattle.mpt_route.specs.declared.route.Answer.{Answer};
 ghost use Rattle.mpt_route.specs.declared.route.Answer.TheVariants as answer;
@@ -35,4 +38,9 @@ pub fn pins_are_taken_once()
 /// mode and destination.
 pub fn rows_say_what_the_entry_asks()
     ensures { (p : Platform) (elcr i : ℕ) (e : IntEntry) (r : Route) → slice_get p.ints i ≡ Some e → slice_get (routes_of p elcr) i ≡ Some (answer.Routed r) → IsRowOf p elcr i e r }
+{}
+
+/// Raised tables have the platform of the tables.
+pub fn raised_tables_have_the_platform()
+    ensures { (tables : Tables) → platform_of (raised_of tables) ≡ platform_of tables }
 {}

@@ -101,18 +101,29 @@ fn same_form(rt: &impl Abort, name: &str, tables: Tables, want: bool) {
     same(rt, name, well_formed(&tables), want);
 }
 
-// A revision of 1, a table under the number of a default, and a default without its number.
+// A revision of 2 and of 1, a table under the number of a default, and a default without its number.
 #[test]
 fn pointer_and_body_go_with_one_another(rt: HostRuntime) -> Result<(), Fail> {
     let tables = placed(rt.alloc(), 0x600, 0x500)?;
     let pointer = tables.pointer;
     same_form(&rt, "a table", tables, true);
+    let unknown = Pointer {
+        revision: 2,
+        ..pointer
+    };
+    let tables = placed(rt.alloc(), 0x600, 0x500)?;
+    same_form(
+        &rt,
+        "an unknown revision",
+        under(unknown, tables.body),
+        false,
+    );
     let old = Pointer {
         revision: 1,
         ..pointer
     };
     let tables = placed(rt.alloc(), 0x600, 0x500)?;
-    same_form(&rt, "an old table", under(old, tables.body), false);
+    same_form(&rt, "an old pointer", under(old, tables.body), true);
     let numbered = Pointer {
         features: [1, 0, 0, 0, 0],
         ..pointer

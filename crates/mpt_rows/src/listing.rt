@@ -132,6 +132,7 @@ fn every_entry(rt: HostRuntime) -> Result<(), Fail> {
         oem_size: 0x3A0,
         local_address: 0xFEE00000,
         reserved: 0x5A,
+        old: [0; 4],
         base: Sequence::new(base_entries(rt.alloc())?),
         ext: Sequence::new(ext_entries(rt.alloc())?),
     };

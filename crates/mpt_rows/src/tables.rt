@@ -50,6 +50,7 @@ pub(crate) fn listed(at: u64, address: u32, base: Vec<Base>, ext: Vec<Ext>) -> T
             oem_size: 0,
             local_address: 0xFEE0_0000,
             reserved: 0,
+            old: [0; 4],
             base: Sequence::new(base),
             ext: Sequence::new(ext),
         }),

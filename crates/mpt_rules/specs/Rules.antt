@@ -5,7 +5,7 @@
 --     BreaksExtRule bases es rule e i j  on the extended entry e at place i, which names j
 --     BreaksRule p t rule i j            all of them
 --     IsPlaceOf t rule i                 a place at which the rule is asked
-use Rattle.std.specs.Prelude.{◌≡◌, ◌≢◌, ℕ, zero, suc, ◌+◌, ◌/◌, ◌%◌, ◌≤◌, ◌<◌, ◌⊎◌, List, length, take, filter, Some, slice_get, slice_index}
+use Rattle.std.specs.Prelude.{◌≡◌, ◌≢◌, ℕ, zero, suc, ◌+◌, ◌/◌, ◌%◌, ◌≤◌, ◌<◌, ◌⊎◌, List, length, take, filter, Some, slice_get}
 use Rattle.mpt_spec.specs.declared.entry.IntEntry.{IntEntry}
 use Rattle.mpt_spec.specs.declared.entry.Base.{Base}
 use Rattle.mpt_spec.specs.declared.entry.Base.TheVariants as base
@@ -21,7 +21,7 @@ use Rattle.mpt_rules.specs.declared.rule.ExtRule.{ExtRule}
 use Rattle.mpt_rules.specs.declared.rule.ExtRule.TheVariants as on_ext
 use Rattle.mpt_rules.specs.declared.rule.Rule.{Rule}
 use Rattle.mpt_rules.specs.declared.rule.Rule.TheVariants as rule
-use Rattle.mpt_spec.specs.Canonical.{HasClearBits, HasClearExtBits}
+use Rattle.mpt_spec.specs.Canonical.{HasClearBits, HasClearExtBits, HasClearHeader, HasClearPointerBits}
 use Rattle.mpt_rules.specs.Places.{HoldsAt, HoldsNowhere, IsFirstOf, IsFirstBefore, nowhere}
 use Rattle.mpt_rules.specs.Entries.{IsBootProcessor, HasBootFlag, IsDisabledBoot, IsProcessorOf, IsIoApicOf, IsBusOf, IsEnabledIoApic, is_bus, SharesProcessorId, SharesIoApicId, SharesIdWithProcessor, IsUnknownBusName, IsPciBus, HasTypeAbove, HasPinOutOfRange, HasSameSource, DiffersInSense, HasReservedExtValue, PassesTop, MeetsRange, IsHierarchyOf, GivesParent}
 
@@ -122,13 +122,9 @@ abbrev pub IsInBusLoop : List Ext → Ext → Type 0
 IsInBusLoop es (ext.Hierarchy h) = ReachesWithin 256 es h.parent h.bus
 IsInBusLoop es _ = ⊥
 
--- a floating pointer has no reserved bit: bits 0 to 5 of feature byte 2, and feature bytes 3 to 5 (section 4.1)
-abbrev pub HasClearPointerBits : Pointer → Type 0
-HasClearPointerBits p = (slice_index p.features 1 % 64 ≡ 0) × (slice_index p.features 2 ≡ 0) × (slice_index p.features 3 ≡ 0) × (slice_index p.features 4 ≡ 0)
-
--- rule 15 (sections 4.1 and 4.2): a reserved bit of the floating pointer or of the header
+-- rule 15 (sections 4.1 and 4.2): a reserved bit of the floating pointer or of the header, at revision 1 its bytes 40 to 43
 abbrev pub HasReservedHeaderBits : Pointer → Table → Type 0
-HasReservedHeaderBits p t = (¬ HasClearPointerBits p) ⊎ (t.reserved ≢ 0)
+HasReservedHeaderBits p t = (¬ HasClearPointerBits p) ⊎ (¬ HasClearHeader t)
 
 -- the rules on the whole table: 1, 8, 15 and 20
 abbrev pub BreaksTableRule : Pointer → Table → TableRule → Type 0

@@ -100,7 +100,7 @@ fn has_boot_flag(entry: &Base) -> bool
     ensures { IsTrue result ↔ HasBootFlag entry.now }
 {
     match entry {
-        Base::Processor(e) => e.flags / 2 % 2 == 1,
+        Base::Processor(e) => e.has_boot_flag(),
         _ => false,
     }
 }

@@ -1,7 +1,7 @@
 //! The rules on base entries, one function each: the other place that a broken rule names, or none.
 
 ghost use Rattle.std.specs.Prelude.{◌≡◌, ◌↔◌, ◌≤◌, ◌<◌, ℕ, length, IsTrue, Some, slice_get};
-ghost use Rattle.mpt_spec.specs.Canonical.{HasClearBits, base_type};
+ghost use Rattle.mpt_spec.specs.Canonical.{base_type};
 ghost use Rattle.mpt_rules.specs.declared.rule.BaseRule.TheVariants as on_base;
 ghost use Rattle.mpt_spec.specs.declared.entry.Base.TheVariants as base;
 ghost use Rattle.mpt_rules.specs.Places.{IsOther, IsFirstBefore};
@@ -12,7 +12,7 @@ ghost use Rattle.mpt_rules.specs.Index.{IsBaseIndexOf, DiffersFrom};
 use crate::base_index::BaseIndex;
 use crate::places::{alone, first_at, first_of_key, lacks, place_before};
 use crate::rule::BaseRule;
-use mpt_spec::{Base, IntEntry};
+use mpt_spec::{ALL_APICS, Base, IO_APIC_PINS, IntEntry, LOCAL_APIC_PINS};
 
 fn second_boot_flag(entries: &[Base], index: &BaseIndex, entry: &Base, i: u32) -> Option<u32>
     requires indexed { IsBaseIndexOf entries.now index.now }
@@ -21,7 +21,7 @@ fn second_boot_flag(entries: &[Base], index: &BaseIndex, entry: &Base, i: u32) -
 {
     match entry {
         Base::Processor(e) => {
-            if e.flags / 2 % 2 == 1 {
+            if e.has_boot_flag() {
                 place_before(index.boot, i)
             } else {
                 None
@@ -35,7 +35,7 @@ fn is_disabled_boot(entry: &Base) -> bool
     ensures { IsTrue result ↔ IsDisabledBoot entry.now }
 {
     match entry {
-        Base::Processor(e) => e.flags % 4 == 2,
+        Base::Processor(e) => e.is_disabled_boot(),
         _ => false,
     }
 }
@@ -168,8 +168,8 @@ fn has_unknown_destination(entries: &[Base], index: &BaseIndex, entry: &Base) ->
     ensures { IsTrue result ↔ HasUnknownDestination entries.now entry.now }
 {
     match entry {
-        Base::IoInt(e) => e.dest != 255 && lacks(&index.ios, e.dest),
-        Base::LocalInt(e) => e.dest != 255 && lacks(&index.processors, e.dest),
+        Base::IoInt(e) => e.dest != ALL_APICS && lacks(&index.ios, e.dest),
+        Base::LocalInt(e) => e.dest != ALL_APICS && lacks(&index.processors, e.dest),
         _ => false,
     }
 }
@@ -178,21 +178,9 @@ fn has_pin_out_of_range(entry: &Base) -> bool
     ensures { IsTrue result ↔ HasPinOutOfRange entry.now }
 {
     match entry {
-        Base::IoInt(e) => e.pin > 23,
-        Base::LocalInt(e) => e.pin > 1,
+        Base::IoInt(e) => e.pin >= IO_APIC_PINS,
+        Base::LocalInt(e) => e.pin >= LOCAL_APIC_PINS,
         _ => false,
-    }
-}
-
-fn has_clear_bits(entry: &Base) -> bool
-    ensures { IsTrue result ↔ HasClearBits entry.now }
-{
-    match entry {
-        Base::Processor(e) => e.flags < 4 && e.reserved == [0; 8],
-        Base::Bus(_) => true,
-        Base::IoApic(e) => e.flags < 2,
-        Base::IoInt(e) => e.flags < 16,
-        Base::LocalInt(e) => e.flags < 16,
     }
 }
 
@@ -289,7 +277,7 @@ fn other_sense(entries: &[Base], index: &BaseIndex, entry: &Base, i: u32) -> Opt
 {
     match entry {
         Base::IoInt(e) => {
-            if e.dest == 255 {
+            if e.dest == ALL_APICS {
                 None
             } else {
                 other_sense_of(entries, index, e, i)
@@ -324,7 +312,7 @@ pub fn other_of(
         BaseRule::UnknownBus => alone(has_unknown_bus(entries, index, entry)),
         BaseRule::UnknownDestination => alone(has_unknown_destination(entries, index, entry)),
         BaseRule::PinOutOfRange => alone(has_pin_out_of_range(entry)),
-        BaseRule::ReservedBits => alone(!has_clear_bits(entry)),
+        BaseRule::ReservedBits => alone(!entry.has_clear_bits()),
         BaseRule::ReservedValue => alone(has_reserved_value(entries, index, entry)),
         BaseRule::DuplicateSource => duplicate_source(entries, index, entry, i),
         BaseRule::OtherSense => other_sense(entries, index, entry, i),

@@ -1,7 +1,6 @@
 //! The rules on extended entries, one function each.
 
 ghost use Rattle.std.specs.Prelude.{◌≡◌, ◌≤◌, ◌<◌, ◌↔◌, ℕ, length, IsTrue, Some, None, slice_get, slice_index_or};
-ghost use Rattle.mpt_spec.specs.Canonical.{HasClearExtBits};
 ghost use Rattle.mpt_rules.specs.Places.{IsOther, IsFirstBefore};
 ghost use Rattle.mpt_rules.specs.Entries.{HasReservedExtValue, PassesTop, MeetsRange};
 ghost use Rattle.mpt_rules.specs.Rules.{BreaksExtRule, HasUnknownExtBus, IsInBusLoop, ReachesWithin};
@@ -12,16 +11,6 @@ use crate::ext_index::{ExtIndex, Range};
 use crate::places::{alone, lacks};
 use crate::rule::ExtRule;
 use mpt_spec::{Base, Ext};
-
-fn has_clear_ext_bits(entry: &Ext) -> bool
-    ensures { IsTrue result ↔ HasClearExtBits entry.now }
-{
-    match entry {
-        Ext::Hierarchy(e) => e.info < 2 && e.reserved == [0; 3],
-        Ext::Modifier(e) => e.flags < 2,
-        _ => true,
-    }
-}
 
 fn has_reserved_ext_value(entry: &Ext) -> bool
     ensures { IsTrue result ↔ HasReservedExtValue entry.now }
@@ -140,7 +129,7 @@ pub fn other_of(
     ensures { IsOther (BreaksExtRule bases.now entries.now rule entry.now i) result }
 {
     match rule {
-        ExtRule::ReservedExt => alone(!has_clear_ext_bits(entry) || has_reserved_ext_value(entry)),
+        ExtRule::ReservedExt => alone(!entry.has_clear_bits() || has_reserved_ext_value(entry)),
         ExtRule::RangePastTop => alone(passes_top(entry)),
         ExtRule::MeetingRange => meeting_range(entries, index, entry, i),
         ExtRule::UnknownExtBus => alone(has_unknown_ext_bus(bases, base_index, entry)),

@@ -16,4 +16,3 @@ pub use base_index::{BaseIndex, base_index_of};
 pub use ext_index::{ExtIndex, Range, ext_index_of};
 pub use rule::{BaseRule, ExtRule, Finding, Rule, TableRule};
 pub use rules::other_of;
-pub use table_rules::has_clear_pointer_bits;

@@ -3,7 +3,7 @@
 ghost use Rattle.std.specs.Prelude.{◌≡◌, ◌↔◌, IsTrue};
 ghost use Rattle.mpt_rules.specs.Places.{HoldsNowhere};
 ghost use Rattle.mpt_rules.specs.Entries.{IsBootProcessor, IsEnabledIoApic};
-ghost use Rattle.mpt_rules.specs.Rules.{BreaksTableRule, HasClearPointerBits};
+ghost use Rattle.mpt_rules.specs.Rules.{BreaksTableRule};
 
 use crate::rule::TableRule;
 use mpt_spec::{Base, Pointer, Table};
@@ -12,7 +12,7 @@ fn is_boot_processor(entry: &Base) -> bool
     ensures { IsTrue result ↔ IsBootProcessor entry.now }
 {
     match entry {
-        Base::Processor(e) => e.flags % 4 == 3,
+        Base::Processor(e) => e.is_boot_processor(),
         _ => false,
     }
 }
@@ -21,7 +21,7 @@ fn is_enabled_io_apic(entry: &Base) -> bool
     ensures { IsTrue result ↔ IsEnabledIoApic entry.now }
 {
     match entry {
-        Base::IoApic(e) => e.flags % 2 == 1,
+        Base::IoApic(e) => e.is_enabled(),
         _ => false,
     }
 }
@@ -48,16 +48,6 @@ fn lacks_io_apic(entries: &[Base]) -> bool
     true
 }
 
-/// Whether a pointer has no reserved bit.
-pub fn has_clear_pointer_bits(pointer: &Pointer) -> bool
-    ensures { IsTrue result ↔ HasClearPointerBits pointer.now }
-{
-    pointer.features[1] % 64 == 0
-        && pointer.features[2] == 0
-        && pointer.features[3] == 0
-        && pointer.features[4] == 0
-}
-
 /// Whether the table breaks a rule.
 pub fn breaks(pointer: &Pointer, table: &Table, rule: TableRule) -> bool
     ensures { IsTrue result ↔ BreaksTableRule pointer.now table.now rule }
@@ -65,7 +55,7 @@ pub fn breaks(pointer: &Pointer, table: &Table, rule: TableRule) -> bool
     match rule {
         TableRule::NoBootProcessor => lacks_boot_processor(table.base.as_slice()),
         TableRule::NoIoApic => lacks_io_apic(table.base.as_slice()),
-        TableRule::ReservedHeaderBits => !has_clear_pointer_bits(pointer) || table.reserved != 0,
+        TableRule::ReservedHeaderBits => { !pointer.has_clear_bits() || !table.has_clear_header() }
         TableRule::TwoRevisions => pointer.revision != table.revision,
     }
 }

@@ -1,12 +1,13 @@
 -- Numbers and parts of lists that are joined, and numbers that are written low byte first.
-use Rattle.std.proofs.Common.{◌≡◌, ℕ, zero, suc, ◌+◌, ◌-◌, ◌*◌, ◌%◌, ◌^◌, ◌<◌, ◌≤◌, List, ◌∷◌, ◌++◌, length, take, drop, sum, refl, ap, ◌∙◌, arith}
+use Rattle.std.proofs.Common.{◌≡◌, replicate, ℕ, zero, suc, ◌+◌, ◌-◌, ◌*◌, ◌%◌, ◌^◌, ◌<◌, ◌≤◌, List, ◌∷◌, ◌++◌, length, take, drop, sum, refl, ap, ◌∙◌, arith}
 use Rattle.std.specs.Prelude.{slice_index}
 use Rattle.std.specs.Int.{to_le_bytes, w16, w32, w64}
 use Rattle.std.proofs.Math.Seq.{drop-append-add, take-append_seam, take-length}
 use Rattle.std.proofs.lemmas.List.{get_or-append-add, drop-append-le, take-append-le, length-drop}
 use Rattle.std.proofs.lemmas.List.Sums.{sum_by-cons, sum_by-append}
 use Rattle.std.proofs.lemmas.Nat.{from_le_bytes-to_le_bytes_2, from_le_bytes-to_le_bytes_4, from_le_bytes-to_le_bytes_8}
-use Rattle.mpt_base.specs.Bytes.{part, number_at}
+use Rattle.std.proofs.Math.ListN.{length-replicate}
+use Rattle.mpt_base.specs.Bytes.{part, number_at, IsByteList}
 
 -- what stands behind some bytes, read from the place behind them
 pub slice_index-append : (before bytes : List ℕ) (i : ℕ) → slice_index (before ++ bytes) (length before + i) ≡ slice_index bytes i
@@ -76,3 +77,12 @@ sum-cell front back c =
 -- a checksum in the place of a zero makes the sum a multiple of 256
 pub sealed : (s t c : ℕ) → t ≡ s + c → c ≡ (256 - s % 256) % 256 → t % 256 ≡ 0
 sealed s t c more seal = omega arith
+
+-- so many zeros are so many bytes
+pub zeros : (n : ℕ) → (length {A = ℕ} (replicate n 0) ≡ n) × IsByteList (replicate n 0)
+zeros n = (length-replicate n 0, λ i. zero_at n i)
+  where
+    zero_at : (n i : ℕ) → slice_index (replicate n 0) i < 256
+    zero_at zero i = omega arith
+    zero_at (suc n) zero = omega arith
+    zero_at (suc n) (suc i) = zero_at n i

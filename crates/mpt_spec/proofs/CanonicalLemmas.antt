@@ -1,9 +1,8 @@
 -- The canonical form is canonical, canonical tables are their own canonical form, and both have the same places.
-use Rattle.std.proofs.Common.{◌≡◌, replicate, suc, zero, ℕ, ◌+◌, ◌*◌, ◌/◌, ◌%◌, ◌<◌, ◌≤◌, Bool, true, false, cond, eqb, List, [], ◌∷◌, ◌++◌, length, map, sym, refl, ap, ◌∙◌, subst, arith}
+use Rattle.std.proofs.Common.{◌≡◌, ◌≢◌, ◌⊎◌, replicate, suc, zero, ℕ, ◌+◌, ◌*◌, ◌/◌, ◌%◌, ◌<◌, ◌≤◌, Bool, true, false, cond, eqb, List, [], ◌∷◌, ◌++◌, length, map, inl, inr, sym, refl, ap, ◌∙◌, subst, arith}
 use Rattle.std.specs.Prelude.{◌==◌, ◌↔◌, filter, sum_by, slice_index}
 use Rattle.std.specs.List.{AllByRecursion, flat_map}
-use Rattle.std.proofs.Math.ListN.{length-replicate}
-use Rattle.std.proofs.lemmas.Bool.{eqb-true}
+use Rattle.std.proofs.lemmas.Bool.{eqb-true, cases_eq}
 use Rattle.std.proofs.lemmas.Bool.Decides.{nat_tests}
 use Rattle.std.proofs.lemmas.List.Sums.{sum_by-cons, sum_by-append}
 use Rattle.mpt_spec.specs.declared.pointer.Pointer.{Pointer}
@@ -17,8 +16,11 @@ use Rattle.mpt_spec.specs.declared.tables.Body.TheVariants as body
 use Rattle.mpt_spec.specs.declared.tables.Tables.{Tables}
 use Rattle.mpt_spec.specs.Entries.{base_length}
 use Rattle.mpt_spec.specs.Extended.{ext_length}
-use Rattle.mpt_spec.specs.Canonical.{base_type, in_type_order, canonical_pointer, canonical_base, canonical_ext, canonical_body, canonical_of, HasClearBits, HasClearExtBits, IsInTypeOrder, IsCanonicalBody, IsCanonical, IsLawfulExt, IsWellFormedTable, IsWellFormedBody, HasPlaceFor, HasBlockPlace, FitsInImage, base_size, ext_size}
+use Rattle.mpt_spec.specs.Canonical.{base_type, in_type_order, canonical_pointer, canonical_base, canonical_ext, canonical_table, canonical_body, canonical_of, HasClearBits, HasClearExtBits, HasClearHeader, IsInTypeOrder, IsCanonicalBody, IsCanonical, IsLawfulExt, HasFieldsOfRevision, IsWellFormedTable, IsWellFormedBody, HasPlaceFor, HasBlockPlace, FitsInImage, base_size, ext_size}
 use Rattle.mpt_base.specs.Bytes.{IsByteList}
+use Rattle.mpt_spec.specs.Revision.{by_revision}
+use Rattle.mpt_spec.proofs.RevisionLemmas.{by_revision-old, by_revision-new, by_revision-both}
+use Rattle.mpt_spec.proofs.ByteLemmas.{zeros}
 use Rattle.mpt_spec.specs.Values.{IsBaseValue, IsExtValue, IsBodyValue, IsTablesValue}
 
 -- what holds of each member
@@ -120,10 +122,13 @@ canonical_ext-clear (ext.Hierarchy e) = (omega arith, refl)
 canonical_ext-clear (ext.Modifier e) = omega arith
 canonical_ext-clear (ext.Opaque e) = tt
 
+canonical_header-clear : (t : Table) → HasClearHeader (canonical_table t)
+canonical_header-clear t = (λ one. by_revision-old t.revision (replicate 4 0) t.old one, λ new. by_revision-new t.revision t.reserved 0 new)
+
 canonical_body-canonical : (b : Body) → IsCanonicalBody (canonical_body b)
 canonical_body-canonical (body.Default n) = tt
 canonical_body-canonical (body.Listed t) = (
-  refl,
+  canonical_header-clear t,
   all-in_type_order HasClearBits (map canonical_base t.base) (all-map HasClearBits canonical_base canonical_base-clear t.base) (0 ∷ 1 ∷ 2 ∷ 3 ∷ 4 ∷ []),
   IsInTypeOrder-in_type_order (map canonical_base t.base),
   all-map HasClearExtBits canonical_ext canonical_ext-clear t.ext,
@@ -132,10 +137,7 @@ canonical_body-canonical (body.Listed t) = (
 -- the canonical form is canonical
 pub IsCanonical-canonical_of : (tables : Tables) → IsCanonical (canonical_of tables)
 IsCanonical-canonical_of tables = record {
-  feature_byte_2 = omega arith;
-  feature_byte_3 = refl;
-  feature_byte_4 = refl;
-  feature_byte_5 = refl;
+  pointer = (omega arith, refl, refl, refl);
   body = canonical_body-canonical tables.body;
 }
 
@@ -215,18 +217,33 @@ features-fixed (a ∷ b ∷ c ∷ d ∷ e ∷ []) size two three four five =
     λ i. a ∷ second i ∷ (sym three) i ∷ (sym four) i ∷ (sym five) i ∷ []
 features-fixed _ size two three four five = absurd (omega (arith, size))
 
+-- at revision 1 bytes 40 to 43 are zero already, and at any other byte 43
+reserved-fixed : (t : Table) → HasClearHeader t → by_revision t.revision t.reserved 0 ≡ t.reserved
+reserved-fixed t h = by_case (cases_eq t.revision 1)
+  where
+    by_case : (t.revision ≡ 1) ⊎ (t.revision ≢ 1) → by_revision t.revision t.reserved 0 ≡ t.reserved
+    by_case (inl one) = by_revision-old t.revision t.reserved 0 one
+    by_case (inr new) = by_revision-new t.revision t.reserved 0 new ∙ sym (h.1 new)
+
+old-fixed : (t : Table) → HasClearHeader t → by_revision t.revision (replicate 4 0) t.old ≡ t.old
+old-fixed t h = by_case (cases_eq t.revision 1)
+  where
+    by_case : (t.revision ≡ 1) ⊎ (t.revision ≢ 1) → by_revision t.revision (replicate 4 0) t.old ≡ t.old
+    by_case (inl one) = by_revision-old t.revision (replicate 4 0) t.old one ∙ sym (h.0 one)
+    by_case (inr new) = by_revision-new t.revision (replicate 4 0) t.old new
+
 canonical_body-fixed : (b : Body) → IsCanonicalBody b → canonical_body b ≡ b
 canonical_body-fixed (body.Default n) h = refl
 canonical_body-fixed (body.Listed t) h =
     let entries : in_type_order (map canonical_base t.base) ≡ t.base = ap in_type_order (map-fixed HasClearBits canonical_base canonical_base-fixed t.base h.1) ∙ in_type_order-in_order t.base h.2 in
     let exts : map canonical_ext t.ext ≡ t.ext = map-fixed HasClearExtBits canonical_ext canonical_ext-fixed t.ext h.3 in
-    λ i. body.Listed (record t { reserved = (sym h.0) i; base = entries i; ext = exts i })
+    λ i. body.Listed (record t { reserved = reserved-fixed t h.0 i; old = old-fixed t h.0 i; base = entries i; ext = exts i })
 
 -- canonical tables are their own canonical form
 pub canonical_of-canonical : (tables : Tables) → IsTablesValue tables → IsCanonical tables → canonical_of tables ≡ tables
 canonical_of-canonical tables v c =
     let features : slice_index tables.pointer.features 0 ∷ 64 * (slice_index tables.pointer.features 1 / 64) ∷ 0 ∷ 0 ∷ 0 ∷ [] ≡ tables.pointer.features =
-    features-fixed tables.pointer.features v.pointer.features.0 c.feature_byte_2 c.feature_byte_3 c.feature_byte_4 c.feature_byte_5 in
+    features-fixed tables.pointer.features v.pointer.features.0 c.pointer.0 c.pointer.1 c.pointer.2 c.pointer.3 in
     let same : canonical_body tables.body ≡ tables.body = canonical_body-fixed tables.body c.body in
     λ i. record tables { pointer = record tables.pointer { features = features i }; body = same i }
 
@@ -234,7 +251,7 @@ canonical_of-canonical tables v c =
 pub canonical_of-twice : (tables : Tables) → canonical_of (canonical_of tables) ≡ canonical_of tables
 canonical_of-twice tables =
     let c : IsCanonical (canonical_of tables) = IsCanonical-canonical_of tables in
-    let features = features-fixed (canonical_pointer tables.pointer).features refl c.feature_byte_2 refl refl refl in
+    let features = features-fixed (canonical_pointer tables.pointer).features refl c.pointer.0 refl refl refl in
     let same : canonical_body (canonical_body tables.body) ≡ canonical_body tables.body = canonical_body-fixed (canonical_body tables.body) c.body in
     λ i. record tables { pointer = record tables.pointer { features = features i }; body = same i }
 
@@ -272,10 +289,6 @@ canonical_ext-length (ext.Hierarchy e) = refl
 canonical_ext-length (ext.Modifier e) = refl
 canonical_ext-length (ext.Opaque e) = refl
 
--- the canonical form of a table
-abbrev canonical_table : Table → Table
-canonical_table t = record t { reserved = 0; base = in_type_order (map canonical_base t.base); ext = map canonical_ext t.ext }
-
 base_size-canonical : (t : Table) → base_size (canonical_table t) ≡ base_size t
 base_size-canonical t =
     ap (λ n. 44 + n) (sum_by-in_type_order base_length (map canonical_base t.base) ∙ sum_by-types base_length (map canonical_base t.base) ∙ sum_by-map base_length canonical_base canonical_base-length t.base)
@@ -296,16 +309,29 @@ lawful-canonical (e ∷ es) =
     let tail : AllByRecursion IsLawfulExt (map canonical_ext es) ≡ AllByRecursion IsLawfulExt es = lawful-canonical es in
     λ i. head i × tail i
 
+-- a table has the fields of its revision exactly where its canonical form has
+none-map : (es : List Ext) → map canonical_ext es ≡ [] → es ≡ []
+none-map [] h = refl
+none-map (e ∷ es) h = absurd (omega (arith, ap length h))
+
+fields-canonical : (t : Table) → HasFieldsOfRevision (canonical_table t) → HasFieldsOfRevision t
+fields-canonical t (inl h) = inl (h.0, sym (by_revision-new t.revision (replicate 4 0) t.old (λ one. omega (arith, h.0, one))) ∙ h.1)
+fields-canonical t (inr h) = inr (h.0, sym (by_revision-old t.revision t.reserved 0 h.0) ∙ h.1, none-map t.ext h.2)
+
+fields-of_canonical : (t : Table) → HasFieldsOfRevision t → HasFieldsOfRevision (canonical_table t)
+fields-of_canonical t (inl h) = inl (h.0, by_revision-new t.revision (replicate 4 0) t.old (λ one. omega (arith, h.0, one)) ∙ h.1)
+fields-of_canonical t (inr h) = inr (h.0, by_revision-old t.revision t.reserved 0 h.0 ∙ h.1, ap (λ (es : List Ext). map canonical_ext es) h.2)
+
 table-canonical : (t : Table) → IsWellFormedTable (canonical_table t) ↔ IsWellFormedTable t
 table-canonical t = (
   λ h. record {
-    revision = h.revision;
+    revision = fields-canonical t h.revision;
     lawful = subst (λ (a : Type 0). a) (lawful-canonical t.ext) h.lawful;
     base_fits = subst (λ n. n ≤ 65535) (base_size-canonical t) h.base_fits;
     ext_fits = subst (λ n. n ≤ 65535) (ext_size-canonical t) h.ext_fits;
   },
   λ h. record {
-    revision = h.revision;
+    revision = fields-of_canonical t h.revision;
     lawful = subst (λ (a : Type 0). a) (sym (lawful-canonical t.ext)) h.lawful;
     base_fits = subst (λ n. n ≤ 65535) (sym (base_size-canonical t)) h.base_fits;
     ext_fits = subst (λ n. n ≤ 65535) (sym (ext_size-canonical t)) h.ext_fits;
@@ -338,14 +364,6 @@ FitsInImage-canonical_of tables = (
 )
 
 -- the fields of the canonical form fit where those of the tables do
-zeros : (n : ℕ) → (length {A = ℕ} (replicate n 0) ≡ n) × IsByteList (replicate n 0)
-zeros n = (length-replicate n 0, λ i. zero_at n i)
-  where
-    zero_at : (n i : ℕ) → slice_index (replicate n 0) i < 256
-    zero_at zero i = omega arith
-    zero_at (suc n) zero = omega arith
-    zero_at (suc n) (suc i) = zero_at n i
-
 canonical_base-value : (e : Base) → IsBaseValue e → IsBaseValue (canonical_base e)
 canonical_base-value (base.Processor e) v = record { apic = v.apic; version = v.version; flags = omega arith; signature = v.signature; features = v.features; reserved = zeros 8 }
 canonical_base-value (base.Bus e) v = v
@@ -372,7 +390,8 @@ canonical_body-value (body.Listed t) v = record {
   oem_table = v.oem_table;
   oem_size = v.oem_size;
   local_address = v.local_address;
-  reserved = omega arith;
+  reserved = by_revision-both (λ (n : ℕ). n < 256) t.revision t.reserved 0 v.reserved (omega arith);
+  old = by_revision-both (λ (xs : List ℕ). (length xs ≡ 4) × IsByteList xs) t.revision (replicate 4 0) t.old (zeros 4) v.old;
   base = all-in_type_order IsBaseValue (map canonical_base t.base) (all-mapped IsBaseValue canonical_base canonical_base-value t.base v.base) (0 ∷ 1 ∷ 2 ∷ 3 ∷ 4 ∷ []);
   ext = all-mapped IsExtValue canonical_ext canonical_ext-value t.ext v.ext;
 }

@@ -1,4 +1,8 @@
--- Entries that stand end to end. Each lemma stands for base entries and, with Ext for Base, for extended ones.
+-- Entries that stand end to end. Of entries of any kind:
+--     AreEntries E At size es from to   they stand end to end, by what stands where and how long it is; AreEntries-le, -append, -unique
+--     IsStoppedAt E At size from to k   they end before k, and none that begins there ends by the end
+--     stopped_no_entries, stopped_unique   then there are none from `from` to `to`, and k is one
+-- Each further lemma stands for base entries and, with Ext for Base, for extended ones.
 --     IsBaseEntryAt-unique         a place has one entry
 --     IsBaseEntryAt-type           what the type byte of an entry says; for extended ones IsExtEntryAt-head
 --     AreBaseEntries-unique        a range has one list of entries
@@ -67,7 +71,7 @@ AreEntries-unique E At size d (e ∷ es) (f ∷ fs) from to h g =
     cc
 
 -- entries up to a place, and entries up to one behind it: one of these begins at the place
-next_entry : (E : Type 0) (At : E → ℕ → Type 0) (size : E → ℕ) → IsDetermined E At size → (es fs : List E) (from k to : ℕ) → AreEntries E At size es from k → AreEntries E At size fs from to → k < to → (e : E) × At e k × (k + size e ≤ to)
+pub next_entry : (E : Type 0) (At : E → ℕ → Type 0) (size : E → ℕ) → IsDetermined E At size → (es fs : List E) (from k to : ℕ) → AreEntries E At size es from k → AreEntries E At size fs from to → k < to → (e : E) × At e k × (k + size e ≤ to)
 next_entry E At size d es [] from k to h g l =
     let before : from ≤ k = AreEntries-le E At size es from k h in
     absurd (omega arith)
@@ -80,26 +84,28 @@ next_entry E At size d (e ∷ es) (f ∷ fs) from k to h g l =
     next_entry E At size d es fs (from + size e) k to h.1 there l
 
 -- entries end before the place, and there no entry that begins ends by the end
-record IsStoppedAt (E : Type 0) (At : E → ℕ → Type 0) (size : E → ℕ) (from to k : ℕ) : Type 0 where
-  entries : List E
-  are_entries : AreEntries E At size entries from k
-  more : k < to
-  stuck : IsStuck E At size to k
+pub record IsStoppedAt (E : Type 0) (At : E → ℕ → Type 0) (size : E → ℕ) (from to k : ℕ) : Type 0 where
+  pub entries : List E
+  pub are_entries : AreEntries E At size entries from k
+  pub more : k < to
+  pub stuck : IsStuck E At size to k
 
 -- what ends behind the place has an entry there, which ends by the end
-stopped_not_before : (E : Type 0) (At : E → ℕ → Type 0) (size : E → ℕ) → IsDetermined E At size → (fs : List E) (from to k j : ℕ) → IsStoppedAt E At size from to k → AreEntries E At size fs from j → k < j → to < j
+pub stopped_not_before : (E : Type 0) (At : E → ℕ → Type 0) (size : E → ℕ) → IsDetermined E At size → (fs : List E) (from to k j : ℕ) → IsStoppedAt E At size from to k → AreEntries E At size fs from j → k < j → to < j
 stopped_not_before E At size d fs from to k j s g l =
     let next = next_entry E At size d s.entries fs from k j s.are_entries g l in
     let past : to < k + size next.0 = s.stuck next.0 next.1 in
     omega (arith, next.2)
 
-stopped_no_entries : (E : Type 0) (At : E → ℕ → Type 0) (size : E → ℕ) → IsDetermined E At size → (fs : List E) (from to k : ℕ) → IsStoppedAt E At size from to k → AreEntries E At size fs from to → ⊥
+-- then none that begin there end by the end
+pub stopped_no_entries : (E : Type 0) (At : E → ℕ → Type 0) (size : E → ℕ) → IsDetermined E At size → (fs : List E) (from to k : ℕ) → IsStoppedAt E At size from to k → AreEntries E At size fs from to → ⊥
 stopped_no_entries E At size d fs from to k s g =
     let more : k < to = s.more in
     let past : to < to = stopped_not_before E At size d fs from to k to s g more in
     omega arith
 
-stopped_unique : (E : Type 0) (At : E → ℕ → Type 0) (size : E → ℕ) → IsDetermined E At size → (from to k j : ℕ) → IsStoppedAt E At size from to k → IsStoppedAt E At size from to j → k ≡ j
+-- there is one such place
+pub stopped_unique : (E : Type 0) (At : E → ℕ → Type 0) (size : E → ℕ) → IsDetermined E At size → (from to k j : ℕ) → IsStoppedAt E At size from to k → IsStoppedAt E At size from to j → k ≡ j
 stopped_unique E At size d from to k j s t =
     let up : k < j → to < j = stopped_not_before E At size d t.entries from to k j s t.are_entries in
     let down : j < k → to < k = stopped_not_before E At size d s.entries from to j k t s.are_entries in

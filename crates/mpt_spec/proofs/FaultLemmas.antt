@@ -11,6 +11,7 @@ use Rattle.mpt_spec.specs.declared.tables.Table.{Table}
 use Rattle.mpt_spec.specs.declared.tables.Body.{Body}
 use Rattle.mpt_spec.specs.declared.tables.Body.TheVariants as body
 use Rattle.mpt_spec.specs.declared.tables.Tables.{Tables}
+use Rattle.mpt_spec.specs.Revision.{IsKnownRevision}
 use Rattle.mpt_spec.specs.Search.{search_places, HasPointerAt}
 use Rattle.mpt_spec.specs.Table.{base_end, ext_end, IsConfigurationTable, IsBodyOf, Describes}
 use Rattle.mpt_spec.specs.Faults.{address_at, default_at, HasPointerFaultAt, HasTableFaultAt, HasNoPointerFault, HasFaultAt, fault_order, IsFirstFault}
@@ -67,22 +68,22 @@ fault_order-unique k j w v one two =
 pub IsFirstFault-unique : (image : List ℕ) (k j : ℕ) (w v : Reason) → IsFirstFault image k w → IsFirstFault image j v → (k ≡ j) × (w ≡ v)
 IsFirstFault-unique image k j w v f g =
     let places : f.at ≡ g.at = IsFirst-unique (HasPointerAt image) (search_places image) f.at g.at f.first g.first in
-    let other : HasFaultAt image g.at k w = subst (λ x. HasFaultAt image x k w) places f.stands in
-    let one : HasFaultAt image f.at j v = subst (λ x. HasFaultAt image x j v) (sym places) g.stands in
-    fault_order-unique k j w v (f.least j v one) (g.least k w other)
+    let other : HasFaultAt image g.at k w = subst (λ x. HasFaultAt image x k w) places f.fault.stands in
+    let one : HasFaultAt image f.at j v = subst (λ x. HasFaultAt image x j v) (sym places) g.fault.stands in
+    fault_order-unique k j w v (f.fault.least j v one) (g.fault.least k w other)
 
 -- where a table stands, none of its faults does
 table_stands : (t : Table) (image : List ℕ) (at k : ℕ) (w : Reason) → IsConfigurationTable t image at → HasTableFaultAt image at k w → ⊥
 table_stands t image at k why.BadSignature c h = h.1 c.header.signature
 table_stands t image at k why.ShortLength c h = omega (arith, c.inside.base.header, h.1)
 table_stands t image at k why.LengthOutside c h = omega (arith, c.inside.base.inside, h.2)
-table_stands t image at k why.BadRevision c h = h.1 (sym c.header.revision ∙ c.revision)
+table_stands t image at k why.BadRevision c h = h.1 (subst (λ (r : ℕ). IsKnownRevision r) c.header.revision c.revision)
 table_stands t image at k why.BadSum c h = h.2 c.checksum
 table_stands t image at k why.BadCount c h =
     let same : h.2 ≡ t.base = AreBaseEntries-unique h.2 t.base image (at + 44) (base_end image at) h.3 c.base in
     h.4 (ap length same ∙ c.count)
 table_stands t image at k why.ExtOutside c h = omega (arith, c.inside.inside, h.2)
-table_stands t image at k why.BadExtSum c h = h.2 c.ext_checksum
+table_stands t image at k why.BadExtSum c h = h.3 (c.ext_checksum h.2)
 table_stands t image at k why.UnknownEntry c h = IsBaseFaultIn-no_entries t.base image (at + 44) (base_end image at) k why.UnknownEntry h.1 c.base
 table_stands t image at k why.CutEntry c h = IsBaseFaultIn-no_entries t.base image (at + 44) (base_end image at) k why.CutEntry h.1 c.base
 table_stands t image at k why.BadExtType c h = IsExtFaultIn-no_entries t.ext image (base_end image at) (ext_end image at) k why.BadExtType h.1 c.ext
@@ -90,13 +91,13 @@ table_stands t image at k why.BadExtLength c h = IsExtFaultIn-no_entries t.ext i
 table_stands t image at k why.CutExtEntry c h = IsExtFaultIn-no_entries t.ext image (base_end image at) (ext_end image at) k why.CutExtEntry h.1 c.ext
 table_stands t image at k _ c h = h
 
--- where a floating pointer of revision 4 names a body, no fault of the pointer stands
-pointer_stands : (b : Body) (p : Pointer) (image : List ℕ) (at k : ℕ) (w : Reason) → HasPointerFieldsAt p image at → p.revision ≡ 4 → IsBodyOf b p image → HasPointerFaultAt image at k w → ⊥
+-- where a floating pointer of a known revision names a body, no fault of the pointer stands
+pointer_stands : (b : Body) (p : Pointer) (image : List ℕ) (at k : ℕ) (w : Reason) → HasPointerFieldsAt p image at → IsKnownRevision p.revision → IsBodyOf b p image → HasPointerFaultAt image at k w → ⊥
 pointer_stands (body.Default n) p image at k why.NoTable f r b h = omega (arith, f.default, b.0, b.1, h.1)
 pointer_stands (body.Listed t) p image at k why.NoTable f r b h = b.1 (f.address ∙ h.2)
 pointer_stands (body.Default n) p image at k why.TableOutside f r b h = omega (arith, f.default, b.0, b.1, h.1)
 pointer_stands (body.Listed t) p image at k why.TableOutside f r b h = omega (arith, f.address, b.2.inside.base.header, b.2.inside.base.inside, h.3)
-pointer_stands b p image at k why.BadRevision f r c h = h.1 (sym f.revision ∙ r)
+pointer_stands b p image at k why.BadRevision f r c h = h.1 (subst (λ (n : ℕ). IsKnownRevision n) f.revision r)
 pointer_stands (body.Default n) p image at k why.BadDefault f r b h = omega (arith, f.default, b.0, b.2, h.1)
 pointer_stands (body.Listed t) p image at k why.BadDefault f r b h = omega (arith, f.default, b.0, h.1)
 pointer_stands b p image at k _ f r c h = h
@@ -116,7 +117,7 @@ Describes-no_fault image t k w d (inr h) =
 pub Describes-no_first_fault : (image : List ℕ) (t : Tables) (k : ℕ) (w : Reason) → Describes image t → IsFirstFault image k w → ⊥
 Describes-no_first_fault image t k w d f =
     let places : f.at ≡ t.at = IsFirst-unique (HasPointerAt image) (search_places image) f.at t.at f.first d.first in
-    Describes-no_fault image t k w d (subst (λ x. HasFaultAt image x k w) places f.stands)
+    Describes-no_fault image t k w d (subst (λ x. HasFaultAt image x k w) places f.fault.stands)
 
 -- a fault of the table lies in the image, where the header does
 pub table_fault_inside : (image : List ℕ) (at k : ℕ) (w : Reason) → at + 44 ≤ length image → HasTableFaultAt image at k w → k < length image
@@ -152,7 +153,7 @@ header_inside image at none listed = by_size (cases_lt (length image) (address_a
 
 -- the first fault lies in the image
 pub IsFirstFault-inside : (image : List ℕ) (k : ℕ) (w : Reason) → IsFirstFault image k w → k < length image
-IsFirstFault-inside image k w f = by_side f.stands
+IsFirstFault-inside image k w f = by_side f.fault.stands
   where
     by_side : HasFaultAt image f.at k w → k < length image
     by_side (inl h) =

@@ -9,17 +9,18 @@ use Rattle.mpt_spec.specs.Search.{IsFirstPointerAt}
 use Rattle.mpt_spec.specs.declared.entry.Base.{Base}
 use Rattle.mpt_spec.specs.Entries.{AreBaseEntries, IsBaseFaultIn}
 use Rattle.mpt_spec.specs.Extended.{IsExtFaultIn}
-use Rattle.mpt_spec.specs.Table.{base_end, ext_end, count_at, HasExtInside, HasChecksum, HasExtChecksum}
+use Rattle.mpt_spec.specs.Revision.{IsKnownRevision}
+use Rattle.mpt_spec.specs.Table.{base_end, ext_end, count_at, revision_at, HasExtInside, HasChecksum, HasExtChecksum}
 use Rattle.mpt_spec.specs.Faults.{address_at, default_at, HasBadCountAt, HasPointerFaultAt, HasTableFaultAt, HasNoPointerFault, HasFaultAt, fault_order, IsFirstFault}
 use Rattle.mpt_spec.proofs.EntryLemmas.{AreBaseEntries-unique, IsBaseFaultIn-no_entries, IsBaseFaultIn-unique, IsBaseFaultIn-bounds, IsExtFaultIn-unique, IsExtFaultIn-bounds}
 use Rattle.mpt_spec.proofs.FaultLemmas.{reason_number-small}
 
-pub no_pointer_fault : (image : List ℕ) (place : ℕ) → slice_index image (place + 9) ≡ 4 → default_at image place ≡ 0 → address_at image place ≢ 0 → address_at image place + 44 ≤ length image → HasNoPointerFault image place
-no_pointer_fault image place four none some inside k why.NoTable h = some h.2
-no_pointer_fault image place four none some inside k why.TableOutside h = omega (arith, inside, h.3)
-no_pointer_fault image place four none some inside k why.BadRevision h = h.1 four
-no_pointer_fault image place four none some inside k why.BadDefault h = omega (arith, none, h.1)
-no_pointer_fault image place four none some inside k _ h = h
+pub no_pointer_fault : (image : List ℕ) (place : ℕ) → IsKnownRevision (slice_index image (place + 9)) → default_at image place ≡ 0 → address_at image place ≢ 0 → address_at image place + 44 ≤ length image → HasNoPointerFault image place
+no_pointer_fault image place known none some inside k why.NoTable h = some h.2
+no_pointer_fault image place known none some inside k why.TableOutside h = omega (arith, inside, h.3)
+no_pointer_fault image place known none some inside k why.BadRevision h = h.1 known
+no_pointer_fault image place known none some inside k why.BadDefault h = omega (arith, none, h.1)
+no_pointer_fault image place known none some inside k _ h = h
 
 -- a fault of the table before which no other of the table stands is the first, where none of the pointer stands
 pub IsFirstFault-of_table : (image : List ℕ) (place k : ℕ) (w : Reason) → IsFirstPointerAt image place → HasNoPointerFault image place → default_at image place ≡ 0 → HasTableFaultAt image (address_at image place) k w
@@ -27,8 +28,7 @@ pub IsFirstFault-of_table : (image : List ℕ) (place k : ℕ) (w : Reason) → 
 IsFirstFault-of_table image place k w first none listed stands least = record {
   at = place;
   first = first;
-  stands = inr (none, listed, stands);
-  least = λ j v h. after j v h;
+  fault = record { stands = inr (none, listed, stands); least = λ j v h. after j v h };
 }
   where
     after : (j : ℕ) (v : Reason) → HasFaultAt image place j v → fault_order k w ≤ fault_order j v
@@ -74,7 +74,7 @@ HasTableFaultAt-offset image at j _ h = absurd h
 pub record HasSoundHeader (image : List ℕ) (at : ℕ) : Type 0 where
   pub signature : part image at 4 ≡ codes "PCMP"
   pub inside : HasExtInside image at
-  pub revision : slice_index image (at + 6) ≡ 4
+  pub revision : IsKnownRevision (revision_at image at)
   pub checksum : HasChecksum image at
   pub ext_checksum : HasExtChecksum image at
 
@@ -88,7 +88,7 @@ HasSoundHeader-rest image at j why.BadRevision s h = absurd (h.1 s.revision)
 HasSoundHeader-rest image at j why.BadSum s h = absurd (h.2 s.checksum)
 HasSoundHeader-rest image at j why.BadCount s h = inl h
 HasSoundHeader-rest image at j why.ExtOutside s h = absurd (omega (arith, s.inside.inside, h.2))
-HasSoundHeader-rest image at j why.BadExtSum s h = absurd (h.2 s.ext_checksum)
+HasSoundHeader-rest image at j why.BadExtSum s h = absurd (h.3 (s.ext_checksum h.2))
 HasSoundHeader-rest image at j why.UnknownEntry s h = inr (inl h.1)
 HasSoundHeader-rest image at j why.CutEntry s h = inr (inl h.1)
 HasSoundHeader-rest image at j why.BadExtType s h = inr (inr h.1)
@@ -131,7 +131,7 @@ IsExtFaultIn-first image at k w es s tiles count f j v h = among (HasSoundHeader
 -- a fault of the pointer before which no other of the pointer stands is the first
 pub IsFirstFault-of_pointer : (image : List ℕ) (place k : ℕ) (w : Reason) → IsFirstPointerAt image place → HasPointerFaultAt image place k w
     → ((j : ℕ) (v : Reason) → HasPointerFaultAt image place j v → fault_order k w ≤ fault_order j v) → IsFirstFault image k w
-IsFirstFault-of_pointer image place k w first stands least = record { at = place; first = first; stands = inl stands; least = λ j v h. among j v h }
+IsFirstFault-of_pointer image place k w first stands least = record { at = place; first = first; fault = record { stands = inl stands; least = λ j v h. among j v h } }
   where
     among : (j : ℕ) (v : Reason) → HasFaultAt image place j v → fault_order k w ≤ fault_order j v
     among j v (inl h) = least j v h

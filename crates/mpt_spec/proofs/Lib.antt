@@ -1,3 +1,4 @@
+pub mod RevisionLemmas
 pub mod EntryLemmas
 pub mod SearchLemmas
 pub mod CallerLemmas
@@ -14,3 +15,4 @@ pub mod SpellingLemmas
 pub mod ValueLemmas
 pub mod WellFormedLemmas
 pub mod CanonicalLemmas
+pub mod RaisedLemmas

@@ -1,5 +1,8 @@
 -- What stands in an image of bytes is spelled in one way: the bytes that are written for it.
-use Rattle.std.proofs.Common.{◌≡◌, ℕ, suc, ◌+◌, ◌-◌, ◌%◌, ◌<◌, ◌≤◌, ◌⊎◌, List, [], ◌∷◌, ◌++◌, length, take, drop, sum, sym, refl, ap, ◌∙◌, subst, inl, inr, arith, add-zero}
+--     IsSpelledAt image at bytes           the bytes stand in the image from a place on
+--     spelled-byte, -2, -4, -8, -part      those of a field, by its value; spelled-cons, -append: one after the other
+--     unsealed                             the byte that makes a sum zero is the checksum
+use Rattle.std.proofs.Common.{◌≡◌, ◌≢◌, replicate, ℕ, suc, ◌+◌, ◌-◌, ◌%◌, ◌<◌, ◌≤◌, ◌⊎◌, List, [], ◌∷◌, ◌++◌, length, take, drop, sum, sym, refl, ap, ◌∙◌, subst, inl, inr, arith, add-zero}
 use Rattle.std.specs.Prelude.{slice_index, codes}
 use Rattle.std.specs.Int.{to_le_bytes, from_le_bytes, w16, w32, w64}
 use Rattle.std.specs.List.{flat_map}
@@ -19,12 +22,14 @@ use Rattle.mpt_spec.specs.declared.tables.Table.{Table}
 use Rattle.mpt_spec.specs.Pointer.{IsFloatingPointer}
 use Rattle.mpt_spec.specs.Entries.{IsInterruptAt, IsBaseEntryAt, AreBaseEntries, base_length}
 use Rattle.mpt_spec.specs.Extended.{IsExtEntryAt, AreExtEntries, ext_length}
-use Rattle.mpt_spec.specs.Table.{base_length_at, ext_length_at, base_end, ext_end, IsConfigurationTable}
+use Rattle.mpt_spec.specs.Revision.{IsKnownRevision}
+use Rattle.mpt_spec.specs.Table.{base_length_at, ext_length_at, revision_at, old_at, base_end, ext_end, IsConfigurationTable}
 use Rattle.mpt_base.specs.Writing.{checksum_of}
-use Rattle.mpt_spec.specs.Image.{interrupt_bytes, base_bytes, ext_bytes, header_bytes, base_table_bytes, table_bytes, pointer_with, pointer_bytes}
+use Rattle.mpt_spec.specs.Image.{interrupt_bytes, base_bytes, ext_bytes, header_end, header_bytes, base_table_bytes, table_bytes, pointer_with, pointer_bytes}
 use Rattle.mpt_base.specs.Bytes.{IsByteList}
 use Rattle.mpt_spec.proofs.ByteLemmas.{take_whole, two_bytes, four_bytes, eight_bytes, sum-cell}
-use Rattle.mpt_spec.proofs.WrittenTableLemmas.{header_front, header_back, header-parts, length-header, sum-base_table}
+use Rattle.mpt_spec.proofs.WrittenTableLemmas.{header_front, header_back, header-parts, length-header_end, length-header, sum-base_table}
+use Rattle.mpt_spec.proofs.RevisionLemmas.{by_revision-old, by_revision-new, by_revision-both}
 use Rattle.mpt_spec.proofs.CallerLemmas.{slice_index-part, number_at-part}
 
 pub length-part : (image : List ℕ) (at n : ℕ) → at + n ≤ length image → length (part image at n) ≡ n
@@ -39,25 +44,26 @@ IsByteList-part image at n b i = by_place (cases_lt i n)
         let past : length (part image at n) ≤ i = omega (arith, length-take n (drop at image)) in
         omega (arith, get_or_past (part image at n) i 0 past)
 
-number_at-own_part : (n : ℕ) (image : List ℕ) (at : ℕ) → number_at n image at ≡ number_at n (part image at n) 0
+-- a number is that of its own bytes
+pub number_at-own_part : (n : ℕ) (image : List ℕ) (at : ℕ) → number_at n image at ≡ number_at n (part image at n) 0
 number_at-own_part n image at = sym (number_at-part n image at n 0 (omega arith) ∙ ap (λ k. number_at n image k) (add-zero at))
 
 -- the bytes stand in the image from a place on
-record IsSpelledAt (image : List ℕ) (at : ℕ) (bytes : List ℕ) : Type 0 where
-  inside : at + length bytes ≤ length image
-  there : part image at (length bytes) ≡ bytes
+pub record IsSpelledAt (image : List ℕ) (at : ℕ) (bytes : List ℕ) : Type 0 where
+  pub inside : at + length bytes ≤ length image
+  pub there : part image at (length bytes) ≡ bytes
 
 -- the byte that makes a sum zero is the checksum
-unsealed : (s t c : ℕ) → t ≡ s + c → t % 256 ≡ 0 → c < 256 → c ≡ (256 - s % 256) % 256
+pub unsealed : (s t c : ℕ) → t ≡ s + c → t % 256 ≡ 0 → c < 256 → c ≡ (256 - s % 256) % 256
 unsealed s t c more whole low = omega arith
 
 module _ (image : List ℕ) (b : IsByteList image) where
-  spelled-part : (at n : ℕ) (xs : List ℕ) → xs ≡ part image at n → at + n ≤ length image → IsSpelledAt image at xs
+  pub spelled-part : (at n : ℕ) (xs : List ℕ) → xs ≡ part image at n → at + n ≤ length image → IsSpelledAt image at xs
   spelled-part at n xs e h =
       let size : length xs ≡ n = ap length e ∙ length-part image at n h in
       record { inside = omega arith; there = ap (λ m. part image at m) size ∙ sym e }
 
-  spelled-append : (at next : ℕ) (xs ys : List ℕ) → next ≡ at + length xs → IsSpelledAt image at xs → IsSpelledAt image next ys → IsSpelledAt image at (xs ++ ys)
+  pub spelled-append : (at next : ℕ) (xs ys : List ℕ) → next ≡ at + length xs → IsSpelledAt image at xs → IsSpelledAt image next ys → IsSpelledAt image at (xs ++ ys)
   spelled-append at next xs ys p h g =
       let size : length (xs ++ ys) ≡ length xs + length ys = length-append xs ys in
       let inside_rest : next + length ys ≤ length image = g.inside in
@@ -68,27 +74,27 @@ module _ (image : List ℕ) (b : IsByteList image) where
             ∙ ap (λ z. z ++ part image (at + length xs) (length ys)) h.there ∙ ap (λ z. xs ++ z) there_rest;
       }
 
-  spelled-byte : (at x : ℕ) → x ≡ slice_index image at → at < length image → IsSpelledAt image at (x ∷ [])
+  pub spelled-byte : (at x : ℕ) → x ≡ slice_index image at → at < length image → IsSpelledAt image at (x ∷ [])
   spelled-byte at x e h =
       let cell : drop at image ≡ slice_index image at ∷ drop (suc at) image = drop-cons image at 0 h in
       record { inside = omega arith; there = ap (λ z. take 1 z) cell ∙ ap (λ z. z ∷ []) (sym e) }
 
-  spelled-cons : (at next x : ℕ) (xs : List ℕ) → next ≡ at + 1 → x ≡ slice_index image at → IsSpelledAt image next xs → IsSpelledAt image at (x ∷ xs)
+  pub spelled-cons : (at next x : ℕ) (xs : List ℕ) → next ≡ at + 1 → x ≡ slice_index image at → IsSpelledAt image next xs → IsSpelledAt image at (x ∷ xs)
   spelled-cons at next x xs p e g =
       let inside_rest : next + length xs ≤ length image = g.inside in
       spelled-append at next (x ∷ []) xs p (spelled-byte at x e (omega arith)) g
 
-  spelled-2 : (at n : ℕ) → n ≡ number_at 2 image at → at + 2 ≤ length image → IsSpelledAt image at (to_le_bytes w16 n)
+  pub spelled-2 : (at n : ℕ) → n ≡ number_at 2 image at → at + 2 ≤ length image → IsSpelledAt image at (to_le_bytes w16 n)
   spelled-2 at n e h =
       let value : n ≡ from_le_bytes w16 (part image at 2) = e ∙ number_at-own_part 2 image at ∙ two_bytes _ _ in
       spelled-part at 2 (to_le_bytes w16 n) (le_bytes_2 (part image at 2) n (length-part image at 2 h) (IsByteList-part image at 2 b) value) h
 
-  spelled-4 : (at n : ℕ) → n ≡ number_at 4 image at → at + 4 ≤ length image → IsSpelledAt image at (to_le_bytes w32 n)
+  pub spelled-4 : (at n : ℕ) → n ≡ number_at 4 image at → at + 4 ≤ length image → IsSpelledAt image at (to_le_bytes w32 n)
   spelled-4 at n e h =
       let value : n ≡ from_le_bytes w32 (part image at 4) = e ∙ number_at-own_part 4 image at ∙ four_bytes _ _ _ _ in
       spelled-part at 4 (to_le_bytes w32 n) (le_bytes_4 (part image at 4) n (length-part image at 4 h) (IsByteList-part image at 4 b) value) h
 
-  spelled-8 : (at n : ℕ) → n ≡ number_at 8 image at → at + 8 ≤ length image → IsSpelledAt image at (to_le_bytes w64 n)
+  pub spelled-8 : (at n : ℕ) → n ≡ number_at 8 image at → at + 8 ≤ length image → IsSpelledAt image at (to_le_bytes w64 n)
   spelled-8 at n e h =
       let value : n ≡ from_le_bytes w64 (part image at 8) = e ∙ number_at-own_part 8 image at ∙ eight_bytes _ _ _ _ _ _ _ _ in
       spelled-part at 8 (to_le_bytes w64 n) (le_bytes_8 (part image at 8) n (length-part image at 8 h) (IsByteList-part image at 8 b) value) h
@@ -177,6 +183,33 @@ module _ (image : List ℕ) (b : IsByteList image) where
         omega (arith, rest.1, length-append (ext_bytes e) (flat_map ext_bytes es)),
       )
 
+  -- bytes 40 to 43 of the header
+  length-old_at : (at : ℕ) → at + 44 ≤ length image → length (old_at image at) ≡ 4
+  length-old_at at h = by_revision-both (λ (xs : List ℕ). length xs ≡ 4) (revision_at image at) (part image (at + 40) 4) (replicate 4 0) (length-part image (at + 40) 4 (omega arith)) refl
+
+  header_end_spelled : (t : Table) (at : ℕ) (ext_part : List ℕ) → IsConfigurationTable t image at → part image (base_end image at) (ext_length_at image at) ≡ ext_part → length ext_part ≡ ext_length_at image at
+      → IsSpelledAt image (at + 40) (header_end t (length ext_part) (checksum_of ext_part))
+  header_end_spelled t at ext_part c ext_same ext_fill = by_case c.revision
+    where
+      header : at + 44 ≤ length image
+      header = omega (arith, c.inside.base.header, c.inside.base.inside)
+
+      by_case : IsKnownRevision t.revision → IsSpelledAt image (at + 40) (header_end t (length ext_part) (checksum_of ext_part))
+      by_case (inl one) =
+          let there : revision_at image at ≡ 1 = sym c.header.revision ∙ one in
+          let kept : t.old ≡ part image (at + 40) 4 = c.header.old ∙ by_revision-old (revision_at image at) (part image (at + 40) 4) (replicate 4 0) there in
+          subst (λ (xs : List ℕ). IsSpelledAt image (at + 40) xs) (sym (by_revision-old t.revision t.old (to_le_bytes w16 (length ext_part) ++ checksum_of ext_part ∷ t.reserved ∷ []) one)) (spelled-part (at + 40) 4 t.old kept (omega (arith, header)))
+      by_case (inr four) =
+          let new : revision_at image at ≢ 1 = λ e. omega (arith, c.header.revision, four, e) in
+          let long : length ext_part ≡ number_at 2 image (at + 40) = ext_fill ∙ by_revision-new (revision_at image at) 0 (number_at 2 image (at + 40)) new in
+          let reserved : t.reserved ≡ slice_index image (at + 43) = c.header.reserved ∙ by_revision-new (revision_at image at) 0 (slice_index image (at + 43)) new in
+          let ext_sum : SumsToZero (slice_index image (at + 42) ∷ ext_part) = subst (λ (xs : List ℕ). SumsToZero (slice_index image (at + 42) ∷ xs)) ext_same (c.ext_checksum new) in
+          let ext_byte : checksum_of ext_part ≡ slice_index image (at + 42) =
+          sym (unsealed (sum ext_part) (sum (slice_index image (at + 42) ∷ ext_part)) (slice_index image (at + 42)) (omega (arith, sum_by-cons (λ (x : ℕ). x) (slice_index image (at + 42)) ext_part)) ext_sum (b (at + 42))) in
+          subst (λ (xs : List ℕ). IsSpelledAt image (at + 40) xs) (sym (by_revision-new t.revision t.old (to_le_bytes w16 (length ext_part) ++ checksum_of ext_part ∷ t.reserved ∷ []) (λ e. omega (arith, four, e))))
+          (spelled-append (at + 40) (at + 42) (to_le_bytes w16 (length ext_part)) (checksum_of ext_part ∷ t.reserved ∷ []) (omega arith) (spelled-2 (at + 40) (length ext_part) long (omega (arith, header)))
+          (spelled-cons (at + 42) (at + 43) (checksum_of ext_part) (t.reserved ∷ []) (omega arith) ext_byte (spelled-byte (at + 43) t.reserved reserved (omega (arith, header)))))
+
   -- the base table with the checksum that stands in the image
   base_table_spelled : (t : Table) (at : ℕ) → IsConfigurationTable t image at → IsSpelledAt image at (base_table_bytes t (slice_index image (at + 7)) (flat_map ext_bytes t.ext))
   base_table_spelled t at c =
@@ -185,6 +218,7 @@ module _ (image : List ℕ) (b : IsByteList image) where
       let base_len : ℕ = 44 + length entries in
       let checksum : ℕ = slice_index image (at + 7) in
       let ext_checksum : ℕ = checksum_of ext_part in
+      let end : List ℕ = header_end t (length ext_part) ext_checksum in
       let base_inside : at + base_length_at image at ≤ length image = c.inside.base.inside in
       let bases = base_entries_spelled t.base (at + 44) (base_end image at) c.inside.base.inside c.base in
       let exts = ext_entries_spelled t.ext (base_end image at) (ext_end image at) c.inside.inside c.ext in
@@ -192,32 +226,26 @@ module _ (image : List ℕ) (b : IsByteList image) where
       let ext_fill : base_end image at + length ext_part ≡ base_end image at + ext_length_at image at = exts.1 in
       let ext_same : part image (base_end image at) (ext_length_at image at) ≡ ext_part =
       ap (λ n. part image (base_end image at) n) (omega arith) ∙ exts.0.there in
-      let ext_sum : SumsToZero (slice_index image (at + 42) ∷ ext_part) = rw ext_same at c.ext_checksum in
-      let ext_byte : ext_checksum ≡ slice_index image (at + 42) =
-      sym (unsealed (sum ext_part) (sum (slice_index image (at + 42) ∷ ext_part)) (slice_index image (at + 42)) (omega (arith, sum_by-cons (λ (x : ℕ). x) (slice_index image (at + 42)) ext_part)) ext_sum (b (at + 42))) in
+      let last : IsSpelledAt image (at + 40) end = header_end_spelled t at ext_part c ext_same (omega (arith, ext_fill)) in
+      let end_long : length end ≡ 4 = length-header_end t (length ext_part) ext_checksum (ap length c.header.old ∙ length-old_at at (omega arith)) in
       let front : IsSpelledAt image at (header_front base_len t.revision checksum) =
       spelled-append at (at + 4) (codes "PCMP") (to_le_bytes w16 base_len ++ (t.revision ∷ checksum ∷ [])) refl (spelled-part at 4 (codes "PCMP") (sym c.header.signature) (omega arith))
       (spelled-append (at + 4) (at + 6) (to_le_bytes w16 base_len) (t.revision ∷ checksum ∷ []) (omega arith) (spelled-2 (at + 4) base_len (omega arith) (omega arith))
       (spelled-cons (at + 6) (at + 7) t.revision (checksum ∷ []) (omega arith) c.header.revision (spelled-byte (at + 7) checksum refl (omega arith)))) in
-      let back : IsSpelledAt image (at + 28) (header_back t (length ext_part) ext_checksum) =
-      spelled-append (at + 28) (at + 32) (to_le_bytes w32 t.oem_table) (to_le_bytes w16 t.oem_size ++ (to_le_bytes w16 (length t.base) ++ (to_le_bytes w32 t.local_address ++ (to_le_bytes w16 (length ext_part) ++ (ext_checksum ∷ t.reserved ∷ []))))) (omega arith)
+      let back : IsSpelledAt image (at + 28) (header_back t) =
+      spelled-append (at + 28) (at + 32) (to_le_bytes w32 t.oem_table) (to_le_bytes w16 t.oem_size ++ (to_le_bytes w16 (length t.base) ++ to_le_bytes w32 t.local_address)) (omega arith)
       (spelled-4 (at + 28) t.oem_table c.header.oem_table (omega arith))
-      (spelled-append (at + 32) (at + 34) (to_le_bytes w16 t.oem_size) (to_le_bytes w16 (length t.base) ++ (to_le_bytes w32 t.local_address ++ (to_le_bytes w16 (length ext_part) ++ (ext_checksum ∷ t.reserved ∷ [])))) (omega arith)
+      (spelled-append (at + 32) (at + 34) (to_le_bytes w16 t.oem_size) (to_le_bytes w16 (length t.base) ++ to_le_bytes w32 t.local_address) (omega arith)
       (spelled-2 (at + 32) t.oem_size c.header.oem_size (omega arith))
-      (spelled-append (at + 34) (at + 36) (to_le_bytes w16 (length t.base)) (to_le_bytes w32 t.local_address ++ (to_le_bytes w16 (length ext_part) ++ (ext_checksum ∷ t.reserved ∷ []))) (omega arith)
-      (spelled-2 (at + 34) (length t.base) c.count (omega arith))
-      (spelled-append (at + 36) (at + 40) (to_le_bytes w32 t.local_address) (to_le_bytes w16 (length ext_part) ++ (ext_checksum ∷ t.reserved ∷ [])) (omega arith)
-      (spelled-4 (at + 36) t.local_address c.header.local_address (omega arith))
-      (spelled-append (at + 40) (at + 42) (to_le_bytes w16 (length ext_part)) (ext_checksum ∷ t.reserved ∷ []) (omega arith)
-      (spelled-2 (at + 40) (length ext_part) (omega arith) (omega arith))
-      (spelled-cons (at + 42) (at + 43) ext_checksum (t.reserved ∷ []) (omega arith) ext_byte (spelled-byte (at + 43) t.reserved c.header.reserved (omega arith))))))) in
+      (spelled-append (at + 34) (at + 36) (to_le_bytes w16 (length t.base)) (to_le_bytes w32 t.local_address) (omega arith)
+      (spelled-2 (at + 34) (length t.base) c.count (omega arith)) (spelled-4 (at + 36) t.local_address c.header.local_address (omega arith)))) in
       let oem_long : length t.oem ≡ 8 = ap length c.header.oem ∙ length-part image (at + 8) 8 (omega arith) in
       let product_long : length t.product ≡ 12 = ap length c.header.product ∙ length-part image (at + 16) 12 (omega arith) in
-      let all : IsSpelledAt image at (header_front base_len t.revision checksum ++ (t.oem ++ (t.product ++ (header_back t (length ext_part) ext_checksum ++ entries)))) =
-      spelled-append at (at + 8) (header_front base_len t.revision checksum) (t.oem ++ (t.product ++ (header_back t (length ext_part) ext_checksum ++ entries))) refl front
-      (spelled-append (at + 8) (at + 16) t.oem (t.product ++ (header_back t (length ext_part) ext_checksum ++ entries)) (omega arith) (spelled-part (at + 8) 8 t.oem c.header.oem (omega arith))
-      (spelled-append (at + 16) (at + 28) t.product (header_back t (length ext_part) ext_checksum ++ entries) (omega arith) (spelled-part (at + 16) 12 t.product c.header.product (omega arith))
-      (spelled-append (at + 28) (at + 44) (header_back t (length ext_part) ext_checksum) entries (omega arith) back bases.0))) in
+      let all : IsSpelledAt image at (header_front base_len t.revision checksum ++ (t.oem ++ (t.product ++ (header_back t ++ (end ++ entries))))) =
+      spelled-append at (at + 8) (header_front base_len t.revision checksum) (t.oem ++ (t.product ++ (header_back t ++ (end ++ entries)))) refl front
+      (spelled-append (at + 8) (at + 16) t.oem (t.product ++ (header_back t ++ (end ++ entries))) (omega arith) (spelled-part (at + 8) 8 t.oem c.header.oem (omega arith))
+      (spelled-append (at + 16) (at + 28) t.product (header_back t ++ (end ++ entries)) (omega arith) (spelled-part (at + 16) 12 t.product c.header.product (omega arith))
+      (spelled-append (at + 28) (at + 40) (header_back t) (end ++ entries) (omega arith) back (spelled-append (at + 40) (at + 44) end entries (omega (arith, end_long)) last bases.0)))) in
       subst (λ xs. IsSpelledAt image at xs) (sym (header-parts t base_len (length ext_part) checksum ext_checksum entries)) all
 
   table_spelled : (t : Table) (at : ℕ) → IsConfigurationTable t image at → IsSpelledAt image at (table_bytes t)
@@ -234,7 +262,7 @@ module _ (image : List ℕ) (b : IsByteList image) where
       let oem_long : length t.oem ≡ 8 = ap length c.header.oem ∙ length-part image (at + 8) 8 (omega arith) in
       let product_long : length t.product ≡ 12 = ap length c.header.product ∙ length-part image (at + 16) 12 (omega arith) in
       let header : List ℕ = header_bytes t (44 + length entries) (length ext_part) there (checksum_of ext_part) in
-      let header_long : length header ≡ 44 = length-header t (44 + length entries) (length ext_part) there (checksum_of ext_part) oem_long product_long in
+      let header_long : length header ≡ 44 = length-header t (44 + length entries) (length ext_part) there (checksum_of ext_part) oem_long product_long (ap length c.header.old ∙ length-old_at at (omega (arith, c.inside.base.header, base_inside))) in
       let long : length (base_table_bytes t there ext_part) ≡ base_length_at image at = length-append header entries ∙ omega arith in
       let same : part image at (base_length_at image at) ≡ base_table_bytes t there ext_part = ap (λ n. part image at n) (sym long) ∙ table.there in
       let whole : SumsToZero (base_table_bytes t there ext_part) = rw same at c.checksum in

@@ -25,13 +25,14 @@ IsConfigurationTable-unique t u image at h g =
     let bases : t.base ≡ u.base = AreBaseEntries-unique t.base u.base image (at + 44) (base_end image at) h.base g.base in
     let exts : t.ext ≡ u.ext = AreExtEntries-unique t.ext u.ext image (base_end image at) (ext_end image at) h.ext g.ext in
     λ i. record {
-      revision = same h.revision g.revision i;
+      revision = same h.header.revision g.header.revision i;
       oem = same h.header.oem g.header.oem i;
       product = same h.header.product g.header.product i;
       oem_table = same h.header.oem_table g.header.oem_table i;
       oem_size = same h.header.oem_size g.header.oem_size i;
       local_address = same h.header.local_address g.header.local_address i;
       reserved = same h.header.reserved g.header.reserved i;
+      old = same h.header.old g.header.old i;
       base = bases i;
       ext = exts i;
     }

@@ -1,8 +1,8 @@
 -- A table stands, and is at fault, wherever its bytes are: nothing else of an image matters but whether its parts lie inside.
 --     HasTableBytes a b i j n     the n bytes from i on in a and from j on in b are one table's, as far as it lies inside
 --     IsConfigurationTable-moved, HasTableFaultAt-moved
-use Rattle.std.proofs.Common.{◌≡◌, ◌≢◌, ℕ, ◌+◌, ◌-◌, ◌≤◌, ◌<◌, List, ◌∷◌, length, refl, sym, ap, ◌∙◌, subst, inl, inr, arith}
-use Rattle.std.specs.Prelude.{slice_index, codes}
+use Rattle.std.proofs.Common.{◌≡◌, ℕ, ◌+◌, ◌≤◌, ◌<◌, List, ◌∷◌, length, replicate, refl, sym, ap, ◌∙◌, subst, inl, inr, arith}
+use Rattle.std.specs.Prelude.{slice_index}
 use Rattle.std.proofs.lemmas.Bool.{cases_lt}
 use Rattle.mpt_base.specs.Bytes.{number_at, part, SumsToZero}
 use Rattle.mpt_base.specs.declared.fault.Reason.{Reason}
@@ -11,9 +11,10 @@ use Rattle.mpt_spec.specs.declared.tables.Table.{Table}
 use Rattle.mpt_spec.specs.declared.entry.Base.{Base}
 use Rattle.mpt_spec.specs.Entries.{AreBaseEntries, IsBaseFaultIn}
 use Rattle.mpt_spec.specs.Extended.{AreExtEntries, IsExtFaultIn}
-use Rattle.mpt_spec.specs.Table.{base_length_at, ext_length_at, count_at, base_end, ext_end, HasBaseInside, HasExtInside, HasChecksum, HasExtChecksum, IsHeaderAt, IsConfigurationTable}
+use Rattle.mpt_spec.specs.Revision.{IsKnownRevision, by_revision}
+use Rattle.mpt_spec.specs.Table.{base_length_at, ext_length_at, count_at, revision_at, base_end, ext_end, HasBaseInside, HasExtInside, HasChecksum, IsConfigurationTable}
 use Rattle.mpt_spec.specs.Faults.{HasTableFaultAt}
-use Rattle.mpt_spec.proofs.WindowLemmas.{Agree, Agree-sym, Agree-first, Agree-front, Agree-number, AreBaseEntries-moved, IsBaseFaultIn-moved, AreExtEntries-moved, IsExtFaultIn-moved}
+use Rattle.mpt_spec.proofs.WindowLemmas.{Agree, Agree-sym, Agree-front, Agree-number, AreBaseEntries-moved, IsBaseFaultIn-moved, AreExtEntries-moved, IsExtFaultIn-moved}
 
 -- the n bytes from i on in a and from j on in b are the same, and hold the parts of a table there that lie inside
 pub record HasTableBytes (a b : List ℕ) (i j n : ℕ) : Type 0 where
@@ -38,6 +39,11 @@ HasTableBytes-sym a b i j n w = record {
   ext_b = w.ext_a;
 }
 
+-- the bytes of the extended part are as many
+pub Agree-ext_length : (a b : List ℕ) (i j n : ℕ) → 44 ≤ n → Agree a b i j n → ext_length_at a i ≡ ext_length_at b j
+Agree-ext_length a b i j n header agree =
+    ap (λ (r : ℕ). by_revision r 0 (number_at 2 a (i + 40))) (agree.byte 6 (omega (arith, header))) ∙ ap (λ (m : ℕ). by_revision (revision_at b j) 0 m) (Agree-number 2 a b i j n 40 (omega (arith, header)) agree)
+
 -- the lengths in the header are the same
 record HasSameLengths (a b : List ℕ) (i j : ℕ) : Type 0 where
   base : base_length_at a i ≡ base_length_at b j
@@ -47,7 +53,7 @@ record HasSameLengths (a b : List ℕ) (i j : ℕ) : Type 0 where
 same_lengths : (a b : List ℕ) (i j n : ℕ) → HasTableBytes a b i j n → HasSameLengths a b i j
 same_lengths a b i j n w = record {
   base = Agree-number 2 a b i j n 4 (omega (arith, w.header)) w.agree;
-  ext = Agree-number 2 a b i j n 40 (omega (arith, w.header)) w.agree;
+  ext = Agree-ext_length a b i j n w.header w.agree;
   count = Agree-number 2 a b i j n 34 (omega (arith, w.header)) w.agree;
 }
 
@@ -89,6 +95,7 @@ IsConfigurationTable-moved t a b i j n w h =
     let x = base_length_at a i in
     let y = ext_length_at a i in
     let all = w.ext_a h.inside in
+    let revision : revision_at a i ≡ revision_at b j = g.byte 6 (omega (arith, w.header)) in
     let past : i + x + y ≡ i + (x + y) = omega arith in
     let behind : j + (x + y) ≡ j + x + y = omega arith in
     let exts : AreExtEntries t.ext b (j + x) (j + (x + y)) = AreExtEntries-moved t.ext a b i j n x (x + y) g all (subst (λ (m : ℕ). AreExtEntries t.ext a (i + x) m) past h.ext) in
@@ -96,19 +103,20 @@ IsConfigurationTable-moved t a b i j n w h =
       inside = ext_inside_moved a b i j n w h.inside;
       header = record {
         signature = sym (Agree-front a b i j n 4 (omega (arith, w.header)) g) ∙ h.header.signature;
-        revision = h.header.revision ∙ g.byte 6 (omega (arith, w.header));
+        revision = h.header.revision ∙ revision;
         oem = h.header.oem ∙ g.parts 8 8 (omega (arith, w.header));
         product = h.header.product ∙ g.parts 16 12 (omega (arith, w.header));
         oem_table = h.header.oem_table ∙ Agree-number 4 a b i j n 28 (omega (arith, w.header)) g;
         oem_size = h.header.oem_size ∙ Agree-number 2 a b i j n 32 (omega (arith, w.header)) g;
         local_address = h.header.local_address ∙ Agree-number 4 a b i j n 36 (omega (arith, w.header)) g;
-        reserved = h.header.reserved ∙ g.byte 43 (omega (arith, w.header));
+        reserved = h.header.reserved ∙ ap (λ (r : ℕ). by_revision r 0 (slice_index a (i + 43))) revision ∙ ap (λ (c : ℕ). by_revision (revision_at b j) 0 c) (g.byte 43 (omega (arith, w.header)));
+        old = h.header.old ∙ ap (λ (r : ℕ). by_revision r (part a (i + 40) 4) (replicate 4 0)) revision ∙ ap (λ (xs : List ℕ). by_revision (revision_at b j) xs (replicate 4 0)) (g.parts 40 4 (omega (arith, w.header)));
       };
       revision = h.revision;
       checksum = checksum_moved a b i j n w h.inside.base h.checksum;
       count = h.count ∙ same.count;
       base = base_entries_moved t.base a b i j n w h.inside.base h.base;
-      ext_checksum = subst SumsToZero (ext_bytes a b i j n w h.inside) h.ext_checksum;
+      ext_checksum = λ new. subst SumsToZero (ext_bytes a b i j n w h.inside) (h.ext_checksum (λ e. new (sym revision ∙ e)));
       ext = rw (behind, same.base, same.ext) at exts;
     }
 
@@ -158,7 +166,7 @@ HasTableFaultAt-moved a b i j n k why.ShortLength w h =
 HasTableFaultAt-moved a b i j n k why.LengthOutside w h =
     let same = same_lengths a b i j n w in (omega (arith, h.0), omega (arith, h.1, same.base), base_past a b i j n w h.1 h.2)
 HasTableFaultAt-moved a b i j n k why.BadRevision w h =
-    let same = w.agree.byte 6 (omega (arith, w.header)) in (omega (arith, h.0), λ e. h.1 (same ∙ e))
+    let same = w.agree.byte 6 (omega (arith, w.header)) in (omega (arith, h.0), λ known. h.1 (subst (λ (r : ℕ). IsKnownRevision r) (sym same) known))
 HasTableFaultAt-moved a b i j n k why.BadSum w h =
     let back = HasTableBytes-sym a b i j n w in
     let inside = base_inside_moved a b i j n w h.1 in
@@ -169,7 +177,8 @@ HasTableFaultAt-moved a b i j n k why.BadCount w h =
 HasTableFaultAt-moved a b i j n k why.ExtOutside w h =
     (omega (arith, h.0), base_inside_moved a b i j n w h.1, ext_past a b i j n w h.1 h.2)
 HasTableFaultAt-moved a b i j n k why.BadExtSum w h =
-    (omega (arith, h.0), ext_inside_moved a b i j n w h.1, λ c. h.2 (subst SumsToZero (sym (ext_bytes a b i j n w h.1)) c))
+    let same = w.agree.byte 6 (omega (arith, w.header)) in
+    (omega (arith, h.0), ext_inside_moved a b i j n w h.1, λ e. h.2 (same ∙ e), λ c. h.3 (subst SumsToZero (sym (ext_bytes a b i j n w h.1)) c))
 HasTableFaultAt-moved a b i j n k why.UnknownEntry w h = (base_inside_moved a b i j n w h.0, base_fault_moved a b i j n k why.UnknownEntry w h.0 h.1)
 HasTableFaultAt-moved a b i j n k why.CutEntry w h = (base_inside_moved a b i j n w h.0, base_fault_moved a b i j n k why.CutEntry w h.0 h.1)
 HasTableFaultAt-moved a b i j n k why.BadExtType w h = (ext_inside_moved a b i j n w h.0, ext_fault_moved a b i j n k why.BadExtType w h.0 h.1)

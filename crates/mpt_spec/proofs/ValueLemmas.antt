@@ -1,5 +1,5 @@
 -- What stands in an image of bytes has fields that fit.
-use Rattle.std.proofs.Common.{◌≡◌, ℕ, suc, ◌+◌, ◌^◌, ◌<◌, ◌≤◌, List, [], ◌∷◌, length, sym, ap, ◌∙◌, subst, arith}
+use Rattle.std.proofs.Common.{◌≡◌, ℕ, suc, ◌+◌, ◌^◌, ◌<◌, ◌≤◌, List, [], ◌∷◌, length, replicate, sym, refl, ap, ◌∙◌, subst, arith}
 use Rattle.std.specs.Prelude.{slice_index}
 use Rattle.std.specs.List.{AllByRecursion}
 use Rattle.mpt_base.specs.Bytes.{part, number_at}
@@ -16,10 +16,12 @@ use Rattle.mpt_spec.specs.declared.tables.Tables.{Tables}
 use Rattle.mpt_spec.specs.Pointer.{IsFloatingPointer}
 use Rattle.mpt_spec.specs.Entries.{IsInterruptAt, IsBaseEntryAt, AreBaseEntries, base_length}
 use Rattle.mpt_spec.specs.Extended.{IsExtEntryAt, AreExtEntries, ext_length}
-use Rattle.mpt_spec.specs.Table.{base_end, ext_end, IsConfigurationTable, IsBodyOf, Describes}
+use Rattle.mpt_spec.specs.Table.{revision_at, base_end, ext_end, IsConfigurationTable, IsBodyOf, Describes}
 use Rattle.mpt_base.specs.Bytes.{IsByteList}
 use Rattle.mpt_spec.specs.Values.{IsInterruptValue, IsBaseValue, IsExtValue, IsPointerValue, IsTableValue, IsBodyValue, IsTablesValue}
 use Rattle.mpt_spec.proofs.EntryLemmas.{AreBaseEntries-le, AreExtEntries-le}
+use Rattle.mpt_spec.proofs.RevisionLemmas.{by_revision-both}
+use Rattle.mpt_spec.proofs.ByteLemmas.{zeros}
 use Rattle.mpt_spec.proofs.SpellingLemmas.{length-part, IsByteList-part}
 use Rattle.mpt_spec.proofs.WellFormedLemmas.{Describes-below_4_gib}
 
@@ -122,7 +124,9 @@ module _ (image : List ℕ) (b : IsByteList image) where
         oem_table = value_4 t.oem_table (at + 28) c.header.oem_table;
         oem_size = value_2 t.oem_size (at + 32) c.header.oem_size;
         local_address = value_4 t.local_address (at + 36) c.header.local_address;
-        reserved = byte_value t.reserved (at + 43) c.header.reserved;
+        reserved = subst (λ (n : ℕ). n < 256) (sym c.header.reserved) (by_revision-both (λ (n : ℕ). n < 256) (revision_at image at) 0 (slice_index image (at + 43)) (omega arith) (b (at + 43)));
+        old = subst (λ (xs : List ℕ). (length xs ≡ 4) × IsByteList xs) (sym c.header.old)
+            (by_revision-both (λ (xs : List ℕ). (length xs ≡ 4) × IsByteList xs) (revision_at image at) (part image (at + 40) 4) (replicate 4 0) (part_value (part image (at + 40) 4) (at + 40) 4 refl (omega arith)) (zeros 4));
         base = base_values t.base (at + 44) (base_end image at) c.inside.base.inside c.base;
         ext = ext_values t.ext (base_end image at) (ext_end image at) c.inside.inside c.ext;
       }
@@ -130,6 +134,10 @@ module _ (image : List ℕ) (b : IsByteList image) where
   body_value : (is : Body) (p : Pointer) → IsBodyOf is p image → IsBodyValue is
   body_value (body.Default n) p h = omega (arith, h.2)
   body_value (body.Listed t) p h = table_value t p.address h.2
+
+-- a table that stands in an image of bytes has fields that fit
+pub IsConfigurationTable-value : (t : Table) (image : List ℕ) (at : ℕ) → IsByteList image → IsConfigurationTable t image at → IsTableValue t
+IsConfigurationTable-value t image at b c = table_value image b t at c
 
 pub IsFloatingPointer-value : (p : Pointer) (bytes : List ℕ) → IsByteList bytes → IsFloatingPointer p bytes → IsPointerValue p
 IsFloatingPointer-value p bytes b h = record {

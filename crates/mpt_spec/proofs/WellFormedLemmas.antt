@@ -1,9 +1,11 @@
 -- Tables that an image of bytes describes are well formed.
-use Rattle.std.proofs.Common.{◌≡◌, ℕ, zero, suc, ◌+◌, ◌-◌, ◌*◌, ◌/◌, ◌%◌, ◌^◌, ◌<◌, ◌≤◌, Bool, true, false, List, [], ◌∷◌, ◌++◌, length, map, arith}
-use Rattle.std.specs.Prelude.{◌==◌, sum_by, if◌then◌else◌, nat_le}
+use Rattle.std.proofs.Common.{◌≡◌, ℕ, zero, suc, ◌+◌, ◌-◌, ◌*◌, ◌/◌, ◌%◌, ◌^◌, ◌<◌, ◌≤◌, Bool, true, false, List, [], ◌∷◌, ◌++◌, length, map, replicate, sym, refl, ◌∙◌, inl, inr, arith}
+use Rattle.std.specs.Prelude.{◌==◌, sum_by, slice_index, if◌then◌else◌, nat_le}
 use Rattle.std.specs.List.{AllByRecursion, flat_map, range_with_len}
 use Rattle.std.proofs.lemmas.List.Sums.{sum_by-cons}
-use Rattle.mpt_base.specs.Bytes.{number_at}
+use Rattle.mpt_base.specs.Bytes.{number_at, part}
+use Rattle.mpt_spec.specs.Revision.{IsKnownRevision}
+use Rattle.mpt_spec.proofs.RevisionLemmas.{by_revision-old, by_revision-new, by_revision-both}
 use Rattle.mpt_spec.specs.declared.pointer.Area.{Area}
 use Rattle.mpt_spec.specs.declared.entry.Base.{Base}
 use Rattle.mpt_spec.specs.declared.entry.Ext.{Ext}
@@ -16,8 +18,8 @@ use Rattle.mpt_spec.specs.declared.pointer.Pointer.{Pointer}
 use Rattle.mpt_spec.specs.Search.{word_at, cut_area, areas_of, places_in, search_places, IsFirstPointerAt}
 use Rattle.mpt_spec.specs.Entries.{AreBaseEntries, base_length}
 use Rattle.mpt_spec.specs.Extended.{AreExtEntries, IsExtEntryAt, ext_length}
-use Rattle.mpt_spec.specs.Table.{base_length_at, ext_length_at, base_end, ext_end, IsConfigurationTable, IsBodyOf, Describes}
-use Rattle.mpt_spec.specs.Canonical.{IsLawfulExt, IsWellFormedTable, IsWellFormedBody, IsWellFormed}
+use Rattle.mpt_spec.specs.Table.{base_length_at, ext_length_at, revision_at, base_end, ext_end, IsConfigurationTable, IsBodyOf, Describes}
+use Rattle.mpt_spec.specs.Canonical.{IsLawfulExt, HasFieldsOfRevision, IsWellFormedTable, IsWellFormedBody, IsWellFormed}
 use Rattle.mpt_base.specs.Bytes.{IsByteList}
 
 -- a number of two bytes
@@ -44,14 +46,35 @@ ext_entries_lawful : (es : List Ext) (image : List ℕ) (from to : ℕ) → IsBy
 ext_entries_lawful [] image from to b h = tt
 ext_entries_lawful (e ∷ es) image from to b h = (ext_entry_lawful e image from b h.0, ext_entries_lawful es image (from + ext_length e) to b h.1)
 
+-- entries that fill nothing are none
+pub no_ext_entries : (es : List Ext) (image : List ℕ) (from to : ℕ) → AreExtEntries es image from to → to ≤ from → es ≡ []
+no_ext_entries [] image from to h none = refl
+no_ext_entries (e ∷ es) image from to h none = absurd (omega (arith, some e, none, ext_entries_fill es image (from + ext_length e) to h.1))
+  where
+    some : (e : Ext) → 1 ≤ ext_length e
+    some (ext.Space e) = omega arith
+    some (ext.Hierarchy e) = omega arith
+    some (ext.Modifier e) = omega arith
+    some (ext.Opaque e) = omega arith
+
+-- a table in an image has the fields of its revision
+fields_of_revision : (t : Table) (image : List ℕ) (at : ℕ) → IsConfigurationTable t image at → IsKnownRevision t.revision → HasFieldsOfRevision t
+fields_of_revision t image at c (inl one) =
+    let there : revision_at image at ≡ 1 = sym c.header.revision ∙ one in
+    let none : ext_length_at image at ≡ 0 = by_revision-old (revision_at image at) 0 (number_at 2 image (at + 40)) there in
+    inr (one, c.header.reserved ∙ by_revision-old (revision_at image at) 0 (slice_index image (at + 43)) there, no_ext_entries t.ext image (base_end image at) (ext_end image at) c.ext (omega (arith, none)))
+fields_of_revision t image at c (inr four) =
+    let there : revision_at image at ≡ 4 = sym c.header.revision ∙ four in
+    inl (four, c.header.old ∙ by_revision-new (revision_at image at) (part image (at + 40) 4) (replicate 4 0) (λ e. omega (arith, e, there)))
+
 pub IsConfigurationTable-well_formed : (t : Table) (image : List ℕ) (at : ℕ) → IsByteList image → IsConfigurationTable t image at → IsWellFormedTable t
 IsConfigurationTable-well_formed t image at b c =
     let entries : at + 44 + sum_by base_length t.base ≡ at + base_length_at image at = base_entries_fill t.base image (at + 44) (base_end image at) c.base in
     let exts : base_end image at + sum_by ext_length t.ext ≡ base_end image at + ext_length_at image at = ext_entries_fill t.ext image (base_end image at) (ext_end image at) c.ext in
     let base_low : base_length_at image at < 65536 = number_at_2-low image (at + 4) b in
-    let ext_low : ext_length_at image at < 65536 = number_at_2-low image (at + 40) b in
+    let ext_low : ext_length_at image at < 65536 = by_revision-both (λ (n : ℕ). n < 65536) (revision_at image at) 0 (number_at 2 image (at + 40)) (omega arith) (number_at_2-low image (at + 40) b) in
     record {
-      revision = c.revision;
+      revision = fields_of_revision t image at c c.revision;
       lawful = ext_entries_lawful t.ext image (base_end image at) (ext_end image at) b c.ext;
       base_fits = omega arith;
       ext_fits = omega arith;

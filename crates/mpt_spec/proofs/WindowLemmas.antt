@@ -2,27 +2,20 @@
 --     Agree a b i j n       the n bytes of a from i on are those of b from j on
 --     Agree-part            a part of an image, as an image of its own, agrees with the image
 --     AreBaseEntries-moved, IsBaseFaultIn-moved   entries and their fault, and the same of extended ones
-use Rattle.std.proofs.Common.{◌≡◌, ℕ, zero, suc, ◌+◌, ◌-◌, ◌≤◌, ◌<◌, List, [], ◌∷◌, ◌++◌, length, take, drop, refl, sym, ap, ◌∙◌, subst, inl, inr, arith, take-take, drop-drop}
+use Rattle.std.proofs.Common.{◌≡◌, ℕ, zero, suc, ◌+◌, ◌-◌, ◌≤◌, ◌<◌, List, [], ◌∷◌, length, take, drop, refl, sym, ap, ◌∙◌, subst, inl, inr, arith, take-take, drop-drop}
 use Rattle.std.specs.Prelude.{slice_index, ◌⊎◌}
 use Rattle.std.proofs.lemmas.List.{drop-take}
 use Rattle.std.proofs.lemmas.Bool.{cases_lt}
 use Rattle.mpt_base.specs.Bytes.{number_at, part}
 use Rattle.mpt_base.specs.declared.fault.Reason.{Reason}
 use Rattle.mpt_base.specs.declared.fault.Reason.TheVariants as why
-use Rattle.mpt_spec.specs.declared.entry.Processor.{Processor}
-use Rattle.mpt_spec.specs.declared.entry.Bus.{Bus}
-use Rattle.mpt_spec.specs.declared.entry.IoApic.{IoApic}
 use Rattle.mpt_spec.specs.declared.entry.IntEntry.{IntEntry}
 use Rattle.mpt_spec.specs.declared.entry.Base.{Base}
 use Rattle.mpt_spec.specs.declared.entry.Base.TheVariants as base
-use Rattle.mpt_spec.specs.declared.entry.Space.{Space}
-use Rattle.mpt_spec.specs.declared.entry.Hierarchy.{Hierarchy}
-use Rattle.mpt_spec.specs.declared.entry.Modifier.{Modifier}
-use Rattle.mpt_spec.specs.declared.entry.Opaque.{Opaque}
 use Rattle.mpt_spec.specs.declared.entry.Ext.{Ext}
 use Rattle.mpt_spec.specs.declared.entry.Ext.TheVariants as ext
-use Rattle.mpt_spec.specs.Entries.{IsProcessorAt, IsBusAt, IsIoApicAt, IsInterruptAt, IsBaseEntryAt, base_length, length_of_type, AreBaseEntries, HasBaseEntriesBefore, IsBaseFaultIn}
-use Rattle.mpt_spec.specs.Extended.{IsSpaceAt, IsHierarchyAt, IsModifierAt, IsOpaqueAt, IsExtEntryAt, ext_length, AreExtEntries, HasExtEntriesBefore, IsLengthOfExtType, IsExtFaultIn}
+use Rattle.mpt_spec.specs.Entries.{IsInterruptAt, IsBaseEntryAt, base_length, length_of_type, AreBaseEntries, HasBaseEntriesBefore, IsBaseFaultIn}
+use Rattle.mpt_spec.specs.Extended.{IsExtEntryAt, ext_length, AreExtEntries, HasExtEntriesBefore, IsLengthOfExtType, IsExtFaultIn}
 use Rattle.mpt_spec.proofs.EntryLemmas.{AreBaseEntries-le, AreExtEntries-le}
 use Rattle.mpt_spec.proofs.CallerLemmas.{slice_index-part}
 

@@ -1,11 +1,11 @@
 -- The bytes that are written for a table are that table, wherever they stand.
-use Rattle.std.proofs.Common.{◌≡◌, ℕ, ◌+◌, ◌^◌, ◌<◌, ◌≤◌, List, [], ◌∷◌, ◌++◌, length, sum, sym, refl, ap, ◌∙◌, subst, arith, append_assoc}
+use Rattle.std.proofs.Common.{◌≡◌, ◌≢◌, ℕ, ◌+◌, ◌^◌, ◌<◌, ◌≤◌, List, [], ◌∷◌, ◌++◌, length, replicate, sum, inl, inr, sym, refl, ap, ◌∙◌, subst, arith, append_assoc}
 use Rattle.std.specs.Prelude.{slice_index, codes, sum_by}
 use Rattle.std.specs.Int.{to_le_bytes, w16, w32}
 use Rattle.std.specs.List.{AllByRecursion, flat_map}
 use Rattle.std.proofs.lemmas.List.{length-append}
 use Rattle.std.proofs.lemmas.List.Sums.{sum_by-cons}
-use Rattle.mpt_base.specs.Bytes.{part, SumsToZero}
+use Rattle.mpt_base.specs.Bytes.{part, number_at, SumsToZero}
 use Rattle.mpt_spec.specs.declared.entry.Base.{Base}
 use Rattle.mpt_spec.specs.declared.entry.Base.TheVariants as base
 use Rattle.mpt_spec.specs.declared.entry.Ext.{Ext}
@@ -13,12 +13,14 @@ use Rattle.mpt_spec.specs.declared.entry.Ext.TheVariants as ext
 use Rattle.mpt_spec.specs.declared.tables.Table.{Table}
 use Rattle.mpt_spec.specs.Entries.{AreBaseEntries, IsBaseEntryAt, base_length}
 use Rattle.mpt_spec.specs.Extended.{AreExtEntries, IsExtEntryAt, ext_length}
-use Rattle.mpt_spec.specs.Table.{IsHeaderAt, IsConfigurationTable, base_length_at, ext_length_at, count_at, base_end, ext_end}
-use Rattle.mpt_spec.specs.Canonical.{IsLawfulExt, IsWellFormedTable, base_size, ext_size}
+use Rattle.mpt_spec.specs.Revision.{IsKnownRevision}
+use Rattle.mpt_spec.specs.Table.{IsHeaderAt, IsConfigurationTable, base_length_at, ext_length_at, count_at, revision_at, reserved_at, old_at, base_end, ext_end}
+use Rattle.mpt_spec.specs.Canonical.{IsLawfulExt, HasFieldsOfRevision, IsWellFormedTable, base_size, ext_size}
 use Rattle.mpt_base.specs.Writing.{checksum_of}
-use Rattle.mpt_spec.specs.Image.{base_bytes, ext_bytes, header_bytes, base_table_bytes, table_bytes}
+use Rattle.mpt_spec.specs.Image.{base_bytes, ext_bytes, header_end, header_bytes, base_table_bytes, table_bytes}
 use Rattle.mpt_spec.specs.Values.{IsBaseValue, IsExtValue, IsTableValue}
 use Rattle.mpt_spec.proofs.ByteLemmas.{slice_index-behind, number_at-behind, part-behind, take-append_whole, number_at-to_le_bytes_2, number_at-to_le_bytes_4, sum-cell, sealed}
+use Rattle.mpt_spec.proofs.RevisionLemmas.{by_revision-old, by_revision-new, by_revision-both}
 use Rattle.mpt_spec.proofs.WrittenLemmas.{IsBaseEntryAt-written, IsExtEntryAt-written}
 
 -- entries of any kind: what is spelled one after another stands end to end
@@ -86,17 +88,49 @@ pub length-ext_part : (es : List Ext) → AllByRecursion IsExtValue es → AllBy
 length-ext_part es v l =
     total IsExtEntryAt ext_length ext_bytes IsLawfulValue AreExtEntries (λ image from to e. e) (λ e es image from to h g. (h, g)) (λ e before after v. IsExtEntryAt-written e before after (length before) v.0 v.1 refl) (λ e v. length-ext_bytes e v.0) es (both es v l)
 
--- the header before the OEM id, and behind the product id
+-- the header before the OEM id, behind the product id and before its end
 abbrev pub header_front : ℕ → ℕ → ℕ → List ℕ
 header_front base_len revision checksum = codes "PCMP" ++ to_le_bytes w16 base_len ++ revision ∷ checksum ∷ []
 
-abbrev pub header_back : Table → ℕ → ℕ → List ℕ
-header_back t ext_len ext_checksum =
-    to_le_bytes w32 t.oem_table ++ to_le_bytes w16 t.oem_size ++ to_le_bytes w16 (length t.base) ++ to_le_bytes w32 t.local_address ++ to_le_bytes w16 ext_len ++ ext_checksum ∷ t.reserved ∷ []
+abbrev pub header_back : Table → List ℕ
+header_back t = to_le_bytes w32 t.oem_table ++ to_le_bytes w16 t.oem_size ++ to_le_bytes w16 (length t.base) ++ to_le_bytes w32 t.local_address
 
 pub header-parts : (t : Table) (base_len ext_len checksum ext_checksum : ℕ) (rest : List ℕ) → header_bytes t base_len ext_len checksum ext_checksum ++ rest
-    ≡ header_front base_len t.revision checksum ++ (t.oem ++ (t.product ++ (header_back t ext_len ext_checksum ++ rest)))
+    ≡ header_front base_len t.revision checksum ++ (t.oem ++ (t.product ++ (header_back t ++ (header_end t ext_len ext_checksum ++ rest))))
 header-parts t base_len ext_len checksum ext_checksum rest = simp append_assoc
+
+-- what a header has from its end, bytes 40 to 43, with its extended length and its extended checksum
+record IsSpelledEndAt (t : Table) (ext_len ext_checksum : ℕ) (image : List ℕ) (at : ℕ) : Type 0 where
+  reserved : t.reserved ≡ reserved_at image at
+  old : t.old ≡ old_at image at
+  ext_len_there : ext_length_at image at ≡ ext_len
+  ext_checksum_there : revision_at image at ≢ 1 → slice_index image (at + 42) ≡ ext_checksum
+
+end-written : (t : Table) (ext_len ext_checksum : ℕ) (front rest image : List ℕ) (at : ℕ) → length t.old ≡ 4 → HasFieldsOfRevision t → ext_len < 2 ^ 16 → (t.revision ≡ 1 → ext_len ≡ 0)
+    → t.revision ≡ revision_at image at → image ≡ front ++ (header_end t ext_len ext_checksum ++ rest) → length front ≡ at + 40 → IsSpelledEndAt t ext_len ext_checksum image at
+end-written t ext_len ext_checksum front rest image at old_size (inl fields) low none revision spelled here =
+    let r : ℕ = revision_at image at in
+    let new : r ≢ 1 = λ one. omega (arith, fields.0, revision, one) in
+    let end : List ℕ = to_le_bytes w16 ext_len ++ ext_checksum ∷ t.reserved ∷ [] in
+    let is : header_end t ext_len ext_checksum ≡ end = by_revision-new t.revision t.old end (λ one. omega (arith, fields.0, one)) in
+    let all : image ≡ front ++ (end ++ rest) = spelled ∙ ap (λ (xs : List ℕ). front ++ (xs ++ rest)) is in
+    record {
+      reserved = sym (by_revision-new r 0 (slice_index image (at + 43)) new ∙ slice_index-behind image front (end ++ rest) (at + 43) 3 all (omega arith));
+      old = fields.1 ∙ sym (by_revision-new r (part image (at + 40) 4) (replicate 4 0) new);
+      ext_len_there = by_revision-new r 0 (number_at 2 image (at + 40)) new ∙ number_at-behind 2 image front (end ++ rest) (at + 40) 0 all (omega arith) ∙ number_at-to_le_bytes_2 ext_len low;
+      ext_checksum_there = λ _. slice_index-behind image front (end ++ rest) (at + 42) 2 all (omega arith);
+    }
+end-written t ext_len ext_checksum front rest image at old_size (inr fields) low none revision spelled here =
+    let r : ℕ = revision_at image at in
+    let one : r ≡ 1 = sym revision ∙ fields.0 in
+    let is : header_end t ext_len ext_checksum ≡ t.old = by_revision-old t.revision t.old (to_le_bytes w16 ext_len ++ ext_checksum ∷ t.reserved ∷ []) fields.0 in
+    let all : image ≡ front ++ (t.old ++ rest) = spelled ∙ ap (λ (xs : List ℕ). front ++ (xs ++ rest)) is in
+    record {
+      reserved = fields.1 ∙ sym (by_revision-old r 0 (slice_index image (at + 43)) one);
+      old = sym (by_revision-old r (part image (at + 40) 4) (replicate 4 0) one ∙ part-behind 4 image front (t.old ++ rest) (at + 40) 0 all (omega arith) ∙ take-append_whole 4 t.old rest old_size);
+      ext_len_there = by_revision-old r 0 (number_at 2 image (at + 40)) one ∙ sym (none fields.0);
+      ext_checksum_there = λ new. absurd (new one);
+    }
 
 -- the fields of a header that is spelled at a place, with its lengths, its count and its extended checksum
 record IsSpelledHeaderAt (t : Table) (base_len ext_len ext_checksum : ℕ) (image : List ℕ) (at : ℕ) : Type 0 where
@@ -104,43 +138,54 @@ record IsSpelledHeaderAt (t : Table) (base_len ext_len ext_checksum : ℕ) (imag
   base_len_there : base_length_at image at ≡ base_len
   ext_len_there : ext_length_at image at ≡ ext_len
   count_there : count_at image at ≡ length t.base
-  ext_checksum_there : slice_index image (at + 42) ≡ ext_checksum
+  ext_checksum_there : revision_at image at ≢ 1 → slice_index image (at + 42) ≡ ext_checksum
 
-header-written : (t : Table) (base_len ext_len checksum ext_checksum : ℕ) (before rest image : List ℕ) (at : ℕ) → IsTableValue t → base_len < 2 ^ 16 → ext_len < 2 ^ 16 → length t.base < 2 ^ 16
+header-written : (t : Table) (base_len ext_len checksum ext_checksum : ℕ) (before rest image : List ℕ) (at : ℕ) → IsTableValue t → HasFieldsOfRevision t → (t.revision ≡ 1 → ext_len ≡ 0) → base_len < 2 ^ 16 → ext_len < 2 ^ 16 → length t.base < 2 ^ 16
     → image ≡ before ++ (header_bytes t base_len ext_len checksum ext_checksum ++ rest) → at ≡ length before → IsSpelledHeaderAt t base_len ext_len ext_checksum image at
-header-written t base_len ext_len checksum ext_checksum before rest image at v base_low ext_low count_low spelled here =
+header-written t base_len ext_len checksum ext_checksum before rest image at v fields none base_low ext_low count_low spelled here =
     let front : List ℕ = header_front base_len t.revision checksum in
-    let back : List ℕ = header_back t ext_len ext_checksum in
-    let all : image ≡ before ++ (front ++ (t.oem ++ (t.product ++ (back ++ rest)))) = spelled ∙ ap (λ x. before ++ x) (header-parts t base_len ext_len checksum ext_checksum rest) in
-    let from_oem : image ≡ before ++ front ++ (t.oem ++ (t.product ++ (back ++ rest))) = all ∙ sym (append_assoc before front (t.oem ++ (t.product ++ (back ++ rest)))) in
-    let from_product : image ≡ before ++ front ++ t.oem ++ (t.product ++ (back ++ rest)) = from_oem ∙ sym (append_assoc (before ++ front) t.oem (t.product ++ (back ++ rest))) in
-    let from_back : image ≡ before ++ front ++ t.oem ++ t.product ++ (back ++ rest) = from_product ∙ sym (append_assoc (before ++ front ++ t.oem) t.product (back ++ rest)) in
+    let back : List ℕ = header_back t in
+    let end : List ℕ = header_end t ext_len ext_checksum ++ rest in
+    let all : image ≡ before ++ (front ++ (t.oem ++ (t.product ++ (back ++ end)))) = spelled ∙ ap (λ x. before ++ x) (header-parts t base_len ext_len checksum ext_checksum rest) in
+    let from_oem : image ≡ before ++ front ++ (t.oem ++ (t.product ++ (back ++ end))) = all ∙ sym (append_assoc before front (t.oem ++ (t.product ++ (back ++ end)))) in
+    let from_product : image ≡ before ++ front ++ t.oem ++ (t.product ++ (back ++ end)) = from_oem ∙ sym (append_assoc (before ++ front) t.oem (t.product ++ (back ++ end))) in
+    let from_back : image ≡ before ++ front ++ t.oem ++ t.product ++ (back ++ end) = from_product ∙ sym (append_assoc (before ++ front ++ t.oem) t.product (back ++ end)) in
     let oem_at : length (before ++ front) ≡ at + 8 = length-append before front ∙ omega arith in
     let product_at : length (before ++ front ++ t.oem) ≡ at + 16 = length-append (before ++ front) t.oem ∙ omega (arith, v.oem.0) in
     let back_at : length (before ++ front ++ t.oem ++ t.product) ≡ at + 28 = length-append (before ++ front ++ t.oem) t.product ∙ omega (arith, v.product.0) in
+    let from_end : image ≡ before ++ front ++ t.oem ++ t.product ++ back ++ end = from_back ∙ sym (append_assoc (before ++ front ++ t.oem ++ t.product) back end) in
+    let end_at : length (before ++ front ++ t.oem ++ t.product ++ back) ≡ at + 40 = length-append (before ++ front ++ t.oem ++ t.product) back ∙ omega arith in
+    let revision : t.revision ≡ revision_at image at = sym (slice_index-behind image before (front ++ (t.oem ++ (t.product ++ (back ++ end)))) (at + 6) 6 all (omega arith)) in
+    let last : IsSpelledEndAt t ext_len ext_checksum image at = end-written t ext_len ext_checksum (before ++ front ++ t.oem ++ t.product ++ back) rest image at v.old.0 fields ext_low none revision from_end end_at in
     record {
       header = record {
-        signature = part-behind 4 image before (front ++ (t.oem ++ (t.product ++ (back ++ rest)))) at 0 all (omega arith);
-        revision = sym (slice_index-behind image before (front ++ (t.oem ++ (t.product ++ (back ++ rest)))) (at + 6) 6 all (omega arith));
-        oem = sym (part-behind 8 image (before ++ front) (t.oem ++ (t.product ++ (back ++ rest))) (at + 8) 0 from_oem (omega arith) ∙ take-append_whole 8 t.oem (t.product ++ (back ++ rest)) v.oem.0);
-        product = sym (part-behind 12 image (before ++ front ++ t.oem) (t.product ++ (back ++ rest)) (at + 16) 0 from_product (omega arith) ∙ take-append_whole 12 t.product (back ++ rest) v.product.0);
-        oem_table = sym (number_at-behind 4 image (before ++ front ++ t.oem ++ t.product) (back ++ rest) (at + 28) 0 from_back (omega arith) ∙ number_at-to_le_bytes_4 t.oem_table v.oem_table);
-        oem_size = sym (number_at-behind 2 image (before ++ front ++ t.oem ++ t.product) (back ++ rest) (at + 32) 4 from_back (omega arith) ∙ number_at-to_le_bytes_2 t.oem_size v.oem_size);
-        local_address = sym (number_at-behind 4 image (before ++ front ++ t.oem ++ t.product) (back ++ rest) (at + 36) 8 from_back (omega arith) ∙ number_at-to_le_bytes_4 t.local_address v.local_address);
-        reserved = sym (slice_index-behind image (before ++ front ++ t.oem ++ t.product) (back ++ rest) (at + 43) 15 from_back (omega arith));
+        signature = part-behind 4 image before (front ++ (t.oem ++ (t.product ++ (back ++ end)))) at 0 all (omega arith);
+        revision = revision;
+        oem = sym (part-behind 8 image (before ++ front) (t.oem ++ (t.product ++ (back ++ end))) (at + 8) 0 from_oem (omega arith) ∙ take-append_whole 8 t.oem (t.product ++ (back ++ end)) v.oem.0);
+        product = sym (part-behind 12 image (before ++ front ++ t.oem) (t.product ++ (back ++ end)) (at + 16) 0 from_product (omega arith) ∙ take-append_whole 12 t.product (back ++ end) v.product.0);
+        oem_table = sym (number_at-behind 4 image (before ++ front ++ t.oem ++ t.product) (back ++ end) (at + 28) 0 from_back (omega arith) ∙ number_at-to_le_bytes_4 t.oem_table v.oem_table);
+        oem_size = sym (number_at-behind 2 image (before ++ front ++ t.oem ++ t.product) (back ++ end) (at + 32) 4 from_back (omega arith) ∙ number_at-to_le_bytes_2 t.oem_size v.oem_size);
+        local_address = sym (number_at-behind 4 image (before ++ front ++ t.oem ++ t.product) (back ++ end) (at + 36) 8 from_back (omega arith) ∙ number_at-to_le_bytes_4 t.local_address v.local_address);
+        reserved = last.reserved;
+        old = last.old;
       };
-      base_len_there = number_at-behind 2 image before (front ++ (t.oem ++ (t.product ++ (back ++ rest)))) (at + 4) 4 all (omega arith) ∙ number_at-to_le_bytes_2 base_len base_low;
-      ext_len_there = number_at-behind 2 image (before ++ front ++ t.oem ++ t.product) (back ++ rest) (at + 40) 12 from_back (omega arith) ∙ number_at-to_le_bytes_2 ext_len ext_low;
-      count_there = number_at-behind 2 image (before ++ front ++ t.oem ++ t.product) (back ++ rest) (at + 34) 6 from_back (omega arith) ∙ number_at-to_le_bytes_2 (length t.base) count_low;
-      ext_checksum_there = slice_index-behind image (before ++ front ++ t.oem ++ t.product) (back ++ rest) (at + 42) 14 from_back (omega arith);
+      base_len_there = number_at-behind 2 image before (front ++ (t.oem ++ (t.product ++ (back ++ end)))) (at + 4) 4 all (omega arith) ∙ number_at-to_le_bytes_2 base_len base_low;
+      ext_len_there = last.ext_len_there;
+      count_there = number_at-behind 2 image (before ++ front ++ t.oem ++ t.product) (back ++ end) (at + 34) 6 from_back (omega arith) ∙ number_at-to_le_bytes_2 (length t.base) count_low;
+      ext_checksum_there = last.ext_checksum_there;
     }
 
-pub length-header : (t : Table) (base_len ext_len checksum ext_checksum : ℕ) → length t.oem ≡ 8 → length t.product ≡ 12 → length (header_bytes t base_len ext_len checksum ext_checksum) ≡ 44
-length-header t base_len ext_len checksum ext_checksum oem product =
+pub length-header_end : (t : Table) (ext_len ext_checksum : ℕ) → length t.old ≡ 4 → length (header_end t ext_len ext_checksum) ≡ 4
+length-header_end t ext_len ext_checksum old = by_revision-both (λ (xs : List ℕ). length xs ≡ 4) t.revision t.old (to_le_bytes w16 ext_len ++ ext_checksum ∷ t.reserved ∷ []) old refl
+
+pub length-header : (t : Table) (base_len ext_len checksum ext_checksum : ℕ) → length t.oem ≡ 8 → length t.product ≡ 12 → length t.old ≡ 4 → length (header_bytes t base_len ext_len checksum ext_checksum) ≡ 44
+length-header t base_len ext_len checksum ext_checksum oem product old =
     let header : List ℕ = header_bytes t base_len ext_len checksum ext_checksum in
-    let back : List ℕ = header_back t ext_len ext_checksum in
-    let same : length (header ++ []) ≡ length (header_front base_len t.revision checksum ++ (t.oem ++ (t.product ++ (back ++ [])))) = ap length (header-parts t base_len ext_len checksum ext_checksum []) in
-    omega (arith, same, length-append header [], length-append t.oem (t.product ++ (back ++ [])), length-append t.product (back ++ []))
+    let end : List ℕ = header_end t ext_len ext_checksum in
+    let end_long : length end ≡ 4 = length-header_end t ext_len ext_checksum old in
+    let back : List ℕ = header_back t ++ (end ++ []) in
+    let same : length (header ++ []) ≡ length (header_front base_len t.revision checksum ++ (t.oem ++ (t.product ++ back))) = ap length (header-parts t base_len ext_len checksum ext_checksum []) in
+    omega (arith, same, end_long, length-append header [], length-append t.oem (t.product ++ back), length-append t.product back, length-append (header_back t) (end ++ []), length-append end [])
 
 -- a table has the bytes of its base table and of its extended part
 pub length-table_bytes : (t : Table) → IsTableValue t → IsWellFormedTable t → length (table_bytes t) ≡ base_size t + ext_size t
@@ -149,7 +194,7 @@ length-table_bytes t v w =
     let ext_part : List ℕ = flat_map ext_bytes t.ext in
     let checksum : ℕ = checksum_of (base_table_bytes t 0 ext_part) in
     let header : List ℕ = header_bytes t (44 + length entries) (length ext_part) checksum (checksum_of ext_part) in
-    let header_long : length header ≡ 44 = length-header t (44 + length entries) (length ext_part) checksum (checksum_of ext_part) v.oem.0 v.product.0 in
+    let header_long : length header ≡ 44 = length-header t (44 + length entries) (length ext_part) checksum (checksum_of ext_part) v.oem.0 v.product.0 v.old.0 in
     length-append (header ++ entries) ext_part ∙ omega (arith, header_long, length-append header entries, length-base_part t.base v.base, length-ext_part t.ext v.ext w.lawful)
 
 -- a base entry has at least one byte
@@ -169,13 +214,22 @@ pub sum-base_table : (t : Table) (checksum : ℕ) (ext_part : List ℕ) → sum 
 sum-base_table t checksum ext_part =
     let entries : List ℕ = flat_map base_bytes t.base in
     let base_len : ℕ = 44 + length entries in
-    let rest : List ℕ = t.oem ++ (t.product ++ (header_back t (length ext_part) (checksum_of ext_part) ++ entries)) in
+    let rest : List ℕ = t.oem ++ (t.product ++ (header_back t ++ (header_end t (length ext_part) (checksum_of ext_part) ++ entries))) in
     ap sum (header-parts t base_len (length ext_part) checksum (checksum_of ext_part) entries)
     ∙ sum-cell (codes "PCMP" ++ to_le_bytes w16 base_len ++ t.revision ∷ []) rest checksum
     ∙ ap (λ s. s + checksum) (sym (ap sum (header-parts t base_len (length ext_part) 0 (checksum_of ext_part) entries)))
 
 sum-sealed : (bytes : List ℕ) → SumsToZero (checksum_of bytes ∷ bytes)
 sum-sealed bytes = sealed (sum bytes) (sum (checksum_of bytes ∷ bytes)) (checksum_of bytes) (omega (arith, sum_by-cons (λ (x : ℕ). x) (checksum_of bytes) bytes)) refl
+
+-- a table with the fields of its revision has a known one, and no extended part at revision 1
+known_revision : (t : Table) → HasFieldsOfRevision t → IsKnownRevision t.revision
+known_revision t (inl fields) = inr fields.0
+known_revision t (inr fields) = inl fields.0
+
+no_ext_part : (t : Table) → HasFieldsOfRevision t → t.revision ≡ 1 → length (flat_map ext_bytes t.ext) ≡ 0
+no_ext_part t (inl fields) one = absurd (omega (arith, fields.0, one))
+no_ext_part t (inr fields) one = ap (λ (es : List Ext). length (flat_map ext_bytes es)) fields.2
 
 -- the bytes of a table are the table, at the place behind what stands before them
 pub IsConfigurationTable-written : (t : Table) (before after image : List ℕ) (at : ℕ) → IsTableValue t → IsWellFormedTable t → image ≡ before ++ (table_bytes t ++ after) → length before ≡ at → IsConfigurationTable t image at
@@ -187,7 +241,7 @@ IsConfigurationTable-written t before after image at v w spelled here =
     let header : List ℕ = header_bytes t base_len (length ext_part) checksum (checksum_of ext_part) in
     let entries_long : length entries ≡ sum_by base_length t.base = length-base_part t.base v.base in
     let ext_long : length ext_part ≡ sum_by ext_length t.ext = length-ext_part t.ext v.ext w.lawful in
-    let header_long : length header ≡ 44 = length-header t base_len (length ext_part) checksum (checksum_of ext_part) v.oem.0 v.product.0 in
+    let header_long : length header ≡ 44 = length-header t base_len (length ext_part) checksum (checksum_of ext_part) v.oem.0 v.product.0 v.old.0 in
     let base_table : image ≡ before ++ (header ++ entries ++ (ext_part ++ after)) = spelled ∙ ap (λ x. before ++ x) (append_assoc (header ++ entries) ext_part after) in
     let all : image ≡ before ++ (header ++ (entries ++ (ext_part ++ after))) = base_table ∙ ap (λ x. before ++ x) (append_assoc header entries (ext_part ++ after)) in
     let from_entries : image ≡ before ++ header ++ (entries ++ (ext_part ++ after)) = all ∙ sym (append_assoc before header (entries ++ (ext_part ++ after))) in
@@ -197,7 +251,7 @@ IsConfigurationTable-written t before after image at v w spelled here =
     let size : length image ≡ at + base_len + length ext_part + length after =
     ap length from_ext ∙ length-append (before ++ header ++ entries) (ext_part ++ after) ∙ omega (arith, length-append ext_part after, ext_at) in
     let head : IsSpelledHeaderAt t base_len (length ext_part) (checksum_of ext_part) image at =
-    header-written t base_len (length ext_part) checksum (checksum_of ext_part) before (entries ++ (ext_part ++ after)) image at v (omega (arith, w.base_fits)) (omega (arith, w.ext_fits)) (omega (arith, entries_below_bytes t.base, w.base_fits)) all (sym here) in
+    header-written t base_len (length ext_part) checksum (checksum_of ext_part) before (entries ++ (ext_part ++ after)) image at v w.revision (no_ext_part t w.revision) (omega (arith, w.base_fits)) (omega (arith, w.ext_fits)) (omega (arith, entries_below_bytes t.base, w.base_fits)) all (sym here) in
     let base_there : base_end image at ≡ at + base_len = ap (λ x. at + x) head.base_len_there in
     let ext_there : ext_end image at ≡ at + base_len + length ext_part = cc (base_there, head.ext_len_there) in
     let base_part : part image at (base_length_at image at) ≡ header ++ entries =
@@ -207,18 +261,20 @@ IsConfigurationTable-written t before after image at v w spelled here =
     ap (λ n. part image (base_end image at) n) head.ext_len_there ∙ part-behind (length ext_part) image (before ++ header ++ entries) (ext_part ++ after) (base_end image at) 0 from_ext (omega arith)
     ∙ take-append_whole (length ext_part) ext_part after refl in
     let base_sum : SumsToZero (header ++ entries) = sealed (sum (base_table_bytes t 0 ext_part)) (sum (header ++ entries)) checksum (sum-base_table t checksum ext_part) refl in
-    let ext_list : slice_index image (at + 42) ∷ part image (base_end image at) (ext_length_at image at) ≡ checksum_of ext_part ∷ ext_part = cc (head.ext_checksum_there, sealed_part) in
     record {
       inside = record {
         base = record { header = omega (arith, head.base_len_there); inside = omega (arith, base_there) };
         inside = omega (arith, ext_there);
       };
       header = head.header;
-      revision = w.revision;
+      revision = known_revision t w.revision;
       checksum = subst (λ l. SumsToZero l) (sym base_part) base_sum;
       count = sym head.count_there;
       base = base_entries (before ++ header) (ext_part ++ after) image (at + 44) (base_end image at) from_entries entries_at (omega (arith, base_there));
-      ext_checksum = subst (λ l. SumsToZero l) (sym ext_list) (sum-sealed ext_part);
+      ext_checksum = λ new.
+          let byte : slice_index image (at + 42) ≡ checksum_of ext_part = head.ext_checksum_there new in
+          let ext_list : slice_index image (at + 42) ∷ part image (base_end image at) (ext_length_at image at) ≡ checksum_of ext_part ∷ ext_part = cc (byte, sealed_part) in
+          subst (λ l. SumsToZero l) (sym ext_list) (sum-sealed ext_part);
       ext = ext_entries (before ++ header ++ entries) after image (base_end image at) (ext_end image at) from_ext (omega (arith, base_there)) (omega (arith, base_there, ext_there));
     }
   where

@@ -3,6 +3,7 @@
 --     base_size t, ext_size t      the bytes of the base table and of the extended part
 --     IsWellFormed tables          their fields go with one another, as in every image
 --     canonical_of tables          base entries in the order of their types, reserved bits zero
+--     raised_of tables             the tables at revision 4
 --     IsCanonical tables           reserved bits are zero, and no base entry has a type below that of the entry before it
 --     FitsInImage tables           they have a place in an image of 1 MiB
 use Rattle.std.specs.Prelude.{◌≡◌, ◌≢◌, ◌==◌, ℕ, ◌+◌, ◌*◌, ◌/◌, ◌%◌, ◌≤◌, ◌<◌, ◌⊎◌, List, [], ◌∷◌, length, map, filter, sum_by, slice_index, replicate, ⊤}
@@ -16,6 +17,7 @@ use Rattle.mpt_spec.specs.declared.tables.Table.{Table}
 use Rattle.mpt_spec.specs.declared.tables.Body.{Body}
 use Rattle.mpt_spec.specs.declared.tables.Body.TheVariants as body
 use Rattle.mpt_spec.specs.declared.tables.Tables.{Tables}
+use Rattle.mpt_spec.specs.Revision.{IsKnownRevision, by_revision}
 use Rattle.mpt_spec.specs.Entries.{base_length}
 use Rattle.mpt_spec.specs.Extended.{ext_length}
 use Rattle.mpt_spec.specs.Table.{default_number}
@@ -38,9 +40,13 @@ abbrev pub IsLawfulExt : Ext → Type 0
 IsLawfulExt (ext.Opaque e) = (131 ≤ e.kind) × (e.kind ≤ 255) × (length e.rest ≤ 253)
 IsLawfulExt _ = ⊤
 
--- the table has the revision of 1.4, lawful entries and lengths that 16 bits can say
+-- a table of revision 4 has no bytes 40 to 43 of revision 1; one of revision 1 has no reserved byte and no extended entries
+abbrev pub HasFieldsOfRevision : Table → Type 0
+HasFieldsOfRevision t = ((t.revision ≡ 4) × (t.old ≡ replicate 4 0)) ⊎ ((t.revision ≡ 1) × (t.reserved ≡ 0) × (t.ext ≡ []))
+
+-- the table has the fields of its revision, lawful entries and lengths that 16 bits can say
 pub record IsWellFormedTable (t : Table) : Type 0 where
-  pub revision : t.revision ≡ 4
+  pub revision : HasFieldsOfRevision t
   pub lawful : AllByRecursion IsLawfulExt t.ext
   pub base_fits : base_size t ≤ 65535
   pub ext_fits : ext_size t ≤ 65535
@@ -50,10 +56,10 @@ abbrev pub IsWellFormedBody : Body → Pointer → Type 0
 IsWellFormedBody (body.Default n) p = (default_number p ≡ n) × (1 ≤ n) × (n ≤ 7)
 IsWellFormedBody (body.Listed t) p = (default_number p ≡ 0) × (p.address ≢ 0) × IsWellFormedTable t
 
--- the tables have the revision of 1.4, a body as the floating pointer says, and their place on a boundary of 16 bytes. The tables
+-- the tables have a known revision, a body as the floating pointer says, and their place on a boundary of 16 bytes. The tables
 -- of every image are so. Not all such tables have an image: the table's address may be the place of the floating pointer.
 pub record IsWellFormed (tables : Tables) : Type 0 where
-  pub revision : tables.pointer.revision ≡ 4
+  pub revision : IsKnownRevision tables.pointer.revision
   pub body : IsWellFormedBody tables.body tables.pointer
   pub paragraph : tables.at % 16 ≡ 0
 
@@ -88,14 +94,37 @@ base_type (base.LocalInt e) = 4
 abbrev pub in_type_order : List Base → List Base
 in_type_order es = flat_map (λ n. filter (λ e. base_type e == n) es) (0 ∷ 1 ∷ 2 ∷ 3 ∷ 4 ∷ [])
 
+-- a table without reserved bits, byte 43 of the header or at revision 1 its bytes 40 to 43 among them, its base entries in the
+-- order of their types
+abbrev pub canonical_table : Table → Table
+canonical_table t = record t {
+  reserved = by_revision t.revision t.reserved 0;
+  old = by_revision t.revision (replicate 4 0) t.old;
+  base = in_type_order (map canonical_base t.base);
+  ext = map canonical_ext t.ext;
+}
+
 -- a body without reserved bits, its base entries in the order of their types
 abbrev pub canonical_body : Body → Body
 canonical_body (body.Default n) = body.Default n
-canonical_body (body.Listed t) = body.Listed (record t { reserved = 0; base = in_type_order (map canonical_base t.base); ext = map canonical_ext t.ext })
+canonical_body (body.Listed t) = body.Listed (canonical_table t)
 
 -- the canonical form of the tables
 abbrev pub canonical_of : Tables → Tables
 canonical_of tables = record tables { pointer = canonical_pointer tables.pointer; body = canonical_body tables.body }
+
+-- a body at revision 4; what one of revision 1 has in bytes 40 to 43 is given up
+abbrev pub raised_body : Body → Body
+raised_body (body.Default n) = body.Default n
+raised_body (body.Listed t) = body.Listed (record t { revision = 4; old = by_revision t.revision (replicate 4 0) t.old })
+
+-- the tables with both revisions 4
+abbrev pub raised_of : Tables → Tables
+raised_of tables = record tables { pointer = record tables.pointer { revision = 4 }; body = raised_body tables.body }
+
+-- a floating pointer has no reserved bit: bits 0 to 5 of feature byte 2, and feature bytes 3 to 5
+abbrev pub HasClearPointerBits : Pointer → Type 0
+HasClearPointerBits p = (slice_index p.features 1 % 64 ≡ 0) × (slice_index p.features 2 ≡ 0) × (slice_index p.features 3 ≡ 0) × (slice_index p.features 4 ≡ 0)
 
 -- a base entry has no reserved bit
 abbrev pub HasClearBits : Base → Type 0
@@ -117,17 +146,18 @@ IsInTypeOrder [] = ⊤
 IsInTypeOrder (e ∷ []) = ⊤
 IsInTypeOrder (e ∷ f ∷ es) = (base_type e ≤ base_type f) × IsInTypeOrder (f ∷ es)
 
+-- the header has no reserved bit: byte 43, or at revision 1 bytes 40 to 43
+abbrev pub HasClearHeader : Table → Type 0
+HasClearHeader t = (t.revision ≡ 1 → t.old ≡ replicate 4 0) × (t.revision ≢ 1 → t.reserved ≡ 0)
+
 -- a body has no reserved bit, and its base entries are in the order of their types
 abbrev pub IsCanonicalBody : Body → Type 0
 IsCanonicalBody (body.Default n) = ⊤
-IsCanonicalBody (body.Listed t) = (t.reserved ≡ 0) × AllByRecursion HasClearBits t.base × IsInTypeOrder t.base × AllByRecursion HasClearExtBits t.ext
+IsCanonicalBody (body.Listed t) = HasClearHeader t × AllByRecursion HasClearBits t.base × IsInTypeOrder t.base × AllByRecursion HasClearExtBits t.ext
 
 -- reserved bits are zero, and base entries are in the order of their types
 pub record IsCanonical (tables : Tables) : Type 0 where
-  pub feature_byte_2 : slice_index tables.pointer.features 1 % 64 ≡ 0
-  pub feature_byte_3 : slice_index tables.pointer.features 2 ≡ 0
-  pub feature_byte_4 : slice_index tables.pointer.features 3 ≡ 0
-  pub feature_byte_5 : slice_index tables.pointer.features 4 ≡ 0
+  pub pointer : HasClearPointerBits tables.pointer
   pub body : IsCanonicalBody tables.body
 
 -- a block lies above the words of the search and below 1 MiB, and doesn't meet the floating pointer

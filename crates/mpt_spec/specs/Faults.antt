@@ -10,7 +10,8 @@ use Rattle.mpt_spec.specs.declared.entry.Base.{Base}
 use Rattle.mpt_spec.specs.Search.{IsFirstPointerAt}
 use Rattle.mpt_spec.specs.Entries.{AreBaseEntries, IsUnknownEntryIn, IsCutEntryIn}
 use Rattle.mpt_spec.specs.Extended.{IsBadExtTypeIn, IsBadExtLengthIn, IsCutExtEntryIn}
-use Rattle.mpt_spec.specs.Table.{base_length_at, count_at, base_end, ext_end, HasBaseInside, HasExtInside, HasChecksum, HasExtChecksum}
+use Rattle.mpt_spec.specs.Revision.{IsKnownRevision}
+use Rattle.mpt_spec.specs.Table.{base_length_at, count_at, revision_at, base_end, ext_end, HasBaseInside, HasExtInside, HasChecksum, SumsWithExtChecksum}
 
 -- the address of the table (offset 4 of the floating pointer)
 abbrev pub address_at : List ℕ → ℕ → ℕ
@@ -28,9 +29,9 @@ HasNoTableAt image at k = (k ≡ at + 4) × (default_at image at ≡ 0) × (addr
 abbrev pub HasTableOutsideAt : List ℕ → ℕ → ℕ → Type 0
 HasTableOutsideAt image at k = (k ≡ at + 4) × (default_at image at ≡ 0) × (address_at image at ≢ 0) × (length image < address_at image at + 44)
 
--- BadRevision, at the revision byte of the floating pointer: it isn't 4
+-- BadRevision, at the revision byte of the floating pointer: it is neither 1 nor 4
 abbrev pub HasBadPointerRevisionAt : List ℕ → ℕ → ℕ → Type 0
-HasBadPointerRevisionAt image at k = (k ≡ at + 9) × (slice_index image (at + 9) ≢ 4)
+HasBadPointerRevisionAt image at k = (k ≡ at + 9) × (¬ IsKnownRevision (slice_index image (at + 9)))
 
 -- BadDefault, at feature byte 1: it is above 7
 abbrev pub HasBadDefaultAt : List ℕ → ℕ → ℕ → Type 0
@@ -56,9 +57,9 @@ HasShortLengthAt image at k = (k ≡ at + 4) × (base_length_at image at < 44)
 abbrev pub HasLengthOutsideAt : List ℕ → ℕ → ℕ → Type 0
 HasLengthOutsideAt image at k = (k ≡ at + 4) × (44 ≤ base_length_at image at) × (length image < base_end image at)
 
--- BadRevision, at the header's revision byte: it isn't 4
+-- BadRevision, at the header's revision byte: it is neither 1 nor 4
 abbrev pub HasBadHeaderRevisionAt : List ℕ → ℕ → ℕ → Type 0
-HasBadHeaderRevisionAt image at k = (k ≡ at + 6) × (slice_index image (at + 6) ≢ 4)
+HasBadHeaderRevisionAt image at k = (k ≡ at + 6) × (¬ IsKnownRevision (revision_at image at))
 
 -- BadSum, at the checksum: the base table lies inside and doesn't sum to zero
 abbrev pub HasBadChecksumAt : List ℕ → ℕ → ℕ → Type 0
@@ -69,13 +70,15 @@ abbrev pub HasBadCountAt : List ℕ → ℕ → ℕ → Type 0
 HasBadCountAt image at k =
     (k ≡ at + 34) × HasBaseInside image at × (es : List Base) × AreBaseEntries es image (at + 44) (base_end image at) × (length es ≢ count_at image at)
 
--- ExtOutside, at the extended length: the base table lies inside, and the extended part passes the image
+-- ExtOutside, at the extended length: the base table lies inside, and the extended part, which isn't there at revision 1,
+-- passes the image
 abbrev pub HasExtOutsideAt : List ℕ → ℕ → ℕ → Type 0
 HasExtOutsideAt image at k = (k ≡ at + 40) × HasBaseInside image at × (length image < ext_end image at)
 
--- BadExtSum, at the extended checksum: both parts lie inside, and it doesn't sum to zero with the extended part
+-- BadExtSum, at the extended checksum: the revision isn't 1, both parts lie inside, and it doesn't sum to zero with the
+-- extended part
 abbrev pub HasBadExtChecksumAt : List ℕ → ℕ → ℕ → Type 0
-HasBadExtChecksumAt image at k = (k ≡ at + 42) × HasExtInside image at × (¬ HasExtChecksum image at)
+HasBadExtChecksumAt image at k = (k ≡ at + 42) × HasExtInside image at × (revision_at image at ≢ 1) × (¬ SumsWithExtChecksum image at)
 
 -- UnknownEntry, at the entry: earlier entries stand end to end, and its type is above 4
 abbrev pub HasUnknownEntryAt : List ℕ → ℕ → ℕ → Type 0
@@ -127,9 +130,13 @@ HasFaultAt image at k why =
 abbrev pub fault_order : ℕ → Reason → ℕ
 fault_order k why = 32 * k + reason_number why
 
--- it stands, and no other fault is before it
+-- of these faults it stands, and no other is before it
+pub record IsLeastFault (Stands : ℕ → Reason → Type 0) (k : ℕ) (why : Reason) : Type 0 where
+  pub stands : Stands k why
+  pub least : (j : ℕ) (other : Reason) → Stands j other → fault_order k why ≤ fault_order j other
+
+-- the first fault of an image: the least of those of its first floating pointer and of that one's table
 pub record IsFirstFault (image : List ℕ) (k : ℕ) (why : Reason) : Type 0 where
   pub at : ℕ
   pub first : IsFirstPointerAt image at
-  pub stands : HasFaultAt image at k why
-  pub least : (j : ℕ) (other : Reason) → HasFaultAt image at j other → fault_order k why ≤ fault_order j other
+  pub fault : IsLeastFault (HasFaultAt image at) k why

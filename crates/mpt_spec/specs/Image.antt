@@ -9,6 +9,7 @@ use Rattle.std.specs.Prelude.{ℕ, ◌+◌, ◌/◌, List, [], ◌∷◌, ◌++�
 use Rattle.std.specs.Int.{to_le_bytes, w16, w32, w64}
 use Rattle.std.specs.List.{flat_map}
 use Rattle.mpt_base.specs.Writing.{overlay, checksum_of}
+use Rattle.mpt_spec.specs.Revision.{by_revision}
 use Rattle.mpt_spec.specs.declared.pointer.Pointer.{Pointer}
 use Rattle.mpt_spec.specs.declared.entry.IntEntry.{IntEntry}
 use Rattle.mpt_spec.specs.declared.entry.Base.{Base}
@@ -39,11 +40,15 @@ ext_bytes (ext.Hierarchy e) = 129 ∷ 8 ∷ e.bus ∷ e.info ∷ e.parent ∷ e.
 ext_bytes (ext.Modifier e) = 130 ∷ 8 ∷ e.bus ∷ e.flags ∷ to_le_bytes w32 e.ranges
 ext_bytes (ext.Opaque e) = e.kind ∷ (2 + length e.rest) ∷ e.rest
 
+-- bytes 40 to 43 of the header with this extended length and this extended checksum, or as they are kept at revision 1
+abbrev pub header_end : Table → ℕ → ℕ → List ℕ
+header_end t ext_len ext_checksum = by_revision t.revision t.old (to_le_bytes w16 ext_len ++ ext_checksum ∷ t.reserved ∷ [])
+
 -- the header (figure 4-3) with these two lengths and these two checksums
 abbrev pub header_bytes : Table → ℕ → ℕ → ℕ → ℕ → List ℕ
 header_bytes t base_len ext_len checksum ext_checksum =
     codes "PCMP" ++ to_le_bytes w16 base_len ++ t.revision ∷ checksum ∷ t.oem ++ t.product ++ to_le_bytes w32 t.oem_table ++ to_le_bytes w16 t.oem_size
-    ++ to_le_bytes w16 (length t.base) ++ to_le_bytes w32 t.local_address ++ to_le_bytes w16 ext_len ++ ext_checksum ∷ t.reserved ∷ []
+    ++ to_le_bytes w16 (length t.base) ++ to_le_bytes w32 t.local_address ++ header_end t ext_len ext_checksum
 
 -- the base table with this checksum, before this extended part
 abbrev pub base_table_bytes : Table → ℕ → List ℕ → List ℕ

@@ -107,6 +107,7 @@ pub record IsTableValue (t : Table) : Type 0 where
   pub oem_size : t.oem_size < 2 ^ 16
   pub local_address : t.local_address < 2 ^ 32
   pub reserved : t.reserved < 256
+  pub old : (length t.old ≡ 4) × IsByteList t.old
   pub base : AllByRecursion IsBaseValue t.base
   pub ext : AllByRecursion IsExtValue t.ext
 

@@ -2,6 +2,15 @@
 
 use crate::sequence::Sequence;
 
+/// The destination that means every APIC (sections 4.3.4 and 4.3.5).
+pub const ALL_APICS: u8 = 0xFF;
+
+/// How many inputs an I/O APIC has, INTIN 0 to 23 (82093AA datasheet).
+pub const IO_APIC_PINS: u8 = 24;
+
+/// How many inputs a local APIC has, LINTIN 0 and 1 (section 4.3.5).
+pub const LOCAL_APIC_PINS: u8 = 2;
+
 /// A processor entry (section 4.3.1).
 #[derive(Clone, Copy, Debug, PartialEq, Eq)]
 pub struct Processor {

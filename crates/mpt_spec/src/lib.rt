@@ -3,13 +3,20 @@
 #![tactic(auto)]
 
 mod entry;
+mod flags;
 mod interrupt;
 mod pointer;
+mod reserved;
+mod revision;
 mod sequence;
 mod tables;
 
-pub use entry::{Base, Bus, Ext, Hierarchy, IntEntry, IoApic, Modifier, Opaque, Processor, Space};
+pub use entry::{
+    ALL_APICS, Base, Bus, Ext, Hierarchy, IO_APIC_PINS, IntEntry, IoApic, LOCAL_APIC_PINS,
+    Modifier, Opaque, Processor, Space,
+};
 pub use interrupt::{Kind, Polarity, Trigger};
 pub use pointer::{Area, Pointer};
+pub use revision::{OLD_REVISION, REVISION, is_known_revision};
 pub use sequence::Sequence;
 pub use tables::{Body, Table, Tables};

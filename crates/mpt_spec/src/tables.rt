@@ -6,9 +6,11 @@ use crate::pointer::Pointer;
 use crate::sequence::Sequence;
 
 /// An MP configuration table. Its lengths, its entry count and its checksums are determined by these.
+/// What a table of revision 1 has in bytes 40 to 43 is kept as `old`, and such a table has no extended
+/// entries: that is this project's own profile.
 #[derive(Drop)]
 pub struct Table {
-    /// The revision: 4 for specification 1.4.
+    /// The revision: 1 for specification 1.1, 4 for specification 1.4.
     pub revision: u8,
     /// The OEM id.
     pub oem: [u8; 8],
@@ -20,8 +22,10 @@ pub struct Table {
     pub oem_size: u16,
     /// The base address of the local APICs.
     pub local_address: u32,
-    /// Reserved byte 43.
+    /// Reserved byte 43 at revision 4, 0 at revision 1.
     pub reserved: u8,
+    /// Bytes 40 to 43 at revision 1, 0 at revision 4.
+    pub old: [u8; 4],
     /// The base entries, in table order.
     pub base: Sequence<Base>,
     /// The extended entries, in table order.

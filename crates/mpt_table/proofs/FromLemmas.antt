@@ -10,20 +10,19 @@ use Rattle.mpt_spec.specs.declared.tables.Table.{Table}
 use Rattle.mpt_spec.specs.Pointer.{IsFloatingPointer}
 use Rattle.mpt_spec.specs.Search.{word_at, areas_of, places_in, search_places, IsFirst, HoldsAtNone, HasPointerAt, IsFirstPointerAt}
 use Rattle.mpt_spec.specs.Table.{base_length_at, ext_length_at, IsConfigurationTable, default_number}
-use Rattle.mpt_spec.specs.Faults.{HasTableFaultAt, IsFirstFault}
+use Rattle.mpt_spec.specs.Faults.{HasTableFaultAt, IsFirstFault, IsLeastFault}
 use Rattle.mpt_spec.proofs.CallerLemmas.{IsFloatingPointer-fields}
 use Rattle.mpt_spec.proofs.FirstFaultLemmas.{IsFirstFault-of_table, IsFirstFault-of_pointer}
 use Rattle.mpt_spec.proofs.WindowLemmas.{Agree, Agree-part, Agree-number, part-part}
-use Rattle.mpt_spec.proofs.TableWindowLemmas.{HasTableBytes, IsConfigurationTable-moved}
+use Rattle.mpt_spec.proofs.TableWindowLemmas.{HasTableBytes, Agree-ext_length, IsConfigurationTable-moved}
 use Rattle.mpt_pointer.proofs.FirstLemmas.{KeepsFirst, KeepsFirst-behind, IsFirst-front}
-use Rattle.mpt_table.specs.Least.{IsLeast}
 use Rattle.mpt_table.specs.Header.{HasRightPointer, IsPointerFault}
 use Rattle.mpt_table.specs.declared.search_from.Found.{Found}
 use Rattle.mpt_table.specs.declared.refusal.FileRefusal.{FileRefusal}
 use Rattle.mpt_table.specs.declared.refusal.FileRefusal.TheVariants as refusal
 use Rattle.mpt_table.specs.Windows.{IfTold, IsAreaIn, IsFoundAmong, IfFaultOf, IsFileCauseOf, IsTableRefusal}
 use Rattle.mpt_table.proofs.PointerFaults.{IsPointerFault-first, HasRightPointer-no_fault}
-use Rattle.mpt_table.proofs.TableInWindow.{IsLeast-moved}
+use Rattle.mpt_table.proofs.TableInWindow.{IsLeastFault-moved}
 use Rattle.mpt_table.proofs.WindowAreas.{own_area, first_in_window, none_in_window, places-empty}
 use Rattle.mpt_table.proofs.ToldLemmas.{IfTold-map, IfTold-both, IfTold-all, IfTold-size, IfTold-fills}
 
@@ -100,7 +99,7 @@ table_bytes_of image header bytes size at n is_size room same_header header_size
     let agree : Agree bytes image 0 at (length bytes) = subst (λ (b : List ℕ). Agree b image 0 at (length bytes)) (sym same) (Agree-part image at (length bytes)) in
     let header_agrees : Agree header image 0 at 44 = subst (λ (b : List ℕ). Agree b image 0 at 44) (sym h) (Agree-part image at 44) in
     let base_same : base_length_at header 0 ≡ base_length_at image at = Agree-number 2 header image 0 at 44 4 (omega arith) header_agrees in
-    let ext_same : ext_length_at header 0 ≡ ext_length_at image at = Agree-number 2 header image 0 at 44 40 (omega arith) header_agrees in
+    let ext_same : ext_length_at header 0 ≡ ext_length_at image at = Agree-ext_length header image 0 at 44 (omega arith) header_agrees in
     record {
       agree = agree;
       header = omega (arith, all, whole);
@@ -131,34 +130,34 @@ IsConfigurationTable-told told name bytes at t same h =
     (λ image w. IsConfigurationTable-moved t bytes image 0 at (length bytes) w h) same
 
 -- the first fault of these bytes is the first of the table in the image
-pub IsLeast-told : (told : Option Files) (name bytes : List ℕ) (at k : ℕ) (w : Reason) → IfTold told name (λ image. HasTableBytes bytes image 0 at (length bytes)) → at ≤ k → IsLeast (HasTableFaultAt bytes 0) (k - at) w → IfTold told name (λ image. IsLeast (HasTableFaultAt image at) k w)
-IsLeast-told told name bytes at k w same behind h =
+pub IsLeastFault-told : (told : Option Files) (name bytes : List ℕ) (at k : ℕ) (w : Reason) → IfTold told name (λ image. HasTableBytes bytes image 0 at (length bytes)) → at ≤ k → IsLeastFault (HasTableFaultAt bytes 0) (k - at) w → IfTold told name (λ image. IsLeastFault (HasTableFaultAt image at) k w)
+IsLeastFault-told told name bytes at k w same behind h =
     let own : 0 + (k - at) ≡ k - at = omega arith in
     let there : at + (k - at) ≡ k = omega arith in
-    IfTold-map told name (λ image. HasTableBytes bytes image 0 at (length bytes)) (λ image. IsLeast (HasTableFaultAt image at) k w)
-    (λ image b. subst (λ (x : ℕ). IsLeast (HasTableFaultAt image at) x w) there (IsLeast-moved bytes image 0 at (length bytes) (k - at) w b (subst (λ (x : ℕ). IsLeast (HasTableFaultAt bytes 0) x w) (sym own) h))) same
+    IfTold-map told name (λ image. HasTableBytes bytes image 0 at (length bytes)) (λ image. IsLeastFault (HasTableFaultAt image at) k w)
+    (λ image b. subst (λ (x : ℕ). IsLeastFault (HasTableFaultAt image at) x w) there (IsLeastFault-moved bytes image 0 at (length bytes) (k - at) w b (subst (λ (x : ℕ). IsLeastFault (HasTableFaultAt bytes 0) x w) (sym own) h))) same
 
 -- ---- the whole
 
 -- the first fault of a floating pointer is that of the image
-pub pointer_fault-told : (told : Option Files) (name : List ℕ) (size at k : ℕ) (p : Pointer) (w : Reason) → IsSizeTold told name (Some size) → IfTold told name (λ image. IsFirstPointerAt image at × IsFloatingPointer p (part image at 16)) → IsLeast (IsPointerFault p size at) k w → IfTold told name (λ image. IsFirstFault image k w)
+pub pointer_fault-told : (told : Option Files) (name : List ℕ) (size at k : ℕ) (p : Pointer) (w : Reason) → IsSizeTold told name (Some size) → IfTold told name (λ image. IsFirstPointerAt image at × IsFloatingPointer p (part image at 16)) → IsLeastFault (IsPointerFault p size at) k w → IfTold told name (λ image. IsFirstFault image k w)
 pointer_fault-told told name size at k p w is_size found h =
     IfTold-map told name (λ image. (length image ≡ size) × (IsFirstPointerAt image at × IsFloatingPointer p (part image at 16))) (λ image. IsFirstFault image k w)
     (λ image g.
-    let least = IsPointerFault-first p image at k w g.1.1 (subst (λ (n : ℕ). IsLeast (IsPointerFault p n at) k w) (sym g.0) h) in
+    let least = IsPointerFault-first p image at k w g.1.1 (subst (λ (n : ℕ). IsLeastFault (IsPointerFault p n at) k w) (sym g.0) h) in
     IsFirstFault-of_pointer image at k w g.1.0 least.stands least.least)
     (IfTold-both told name (λ image. length image ≡ size) (λ image. IsFirstPointerAt image at × IsFloatingPointer p (part image at 16)) (IfTold-size told name size is_size) found)
 
 -- the first fault of its table is that of the image
 pub table_fault-told : (told : Option Files) (name : List ℕ) (size at k : ℕ) (p : Pointer) (w : Reason) → IsSizeTold told name (Some size) → IfTold told name (λ image. IsFirstPointerAt image at × IsFloatingPointer p (part image at 16)) → HasRightPointer p size → default_number p ≡ 0
-    → IfTold told name (λ image. IsLeast (HasTableFaultAt image p.address) k w) → IfTold told name (λ image. IsFirstFault image k w)
+    → IfTold told name (λ image. IsLeastFault (HasTableFaultAt image p.address) k w) → IfTold told name (λ image. IsFirstFault image k w)
 table_fault-told told name size at k p w is_size found right listed h =
-    IfTold-map told name (λ image. ((length image ≡ size) × (IsFirstPointerAt image at × IsFloatingPointer p (part image at 16))) × IsLeast (HasTableFaultAt image p.address) k w) (λ image. IsFirstFault image k w)
+    IfTold-map told name (λ image. ((length image ≡ size) × (IsFirstPointerAt image at × IsFloatingPointer p (part image at 16))) × IsLeastFault (HasTableFaultAt image p.address) k w) (λ image. IsFirstFault image k w)
     (λ image g.
     let fields = IsFloatingPointer-fields p image at g.0.1.1 in
-    let least = subst (λ (n : ℕ). IsLeast (HasTableFaultAt image n) k w) fields.address g.1 in
+    let least = subst (λ (n : ℕ). IsLeastFault (HasTableFaultAt image n) k w) fields.address g.1 in
     IsFirstFault-of_table image at k w g.0.1.0 (HasRightPointer-no_fault p image at g.0.1.1 (subst (HasRightPointer p) (sym g.0.0) right)) (sym fields.default ∙ listed) least.stands least.least)
-    (IfTold-both told name (λ image. (length image ≡ size) × (IsFirstPointerAt image at × IsFloatingPointer p (part image at 16))) (λ image. IsLeast (HasTableFaultAt image p.address) k w)
+    (IfTold-both told name (λ image. (length image ≡ size) × (IsFirstPointerAt image at × IsFloatingPointer p (part image at 16))) (λ image. IsLeastFault (HasTableFaultAt image p.address) k w)
     (IfTold-both told name (λ image. length image ≡ size) (λ image. IsFirstPointerAt image at × IsFloatingPointer p (part image at 16)) (IfTold-size told name size is_size) found) h)
 
 -- ---- answers
@@ -199,15 +198,15 @@ pub table_ok : (told : Option Files) (name bytes : List ℕ) (at : ℕ) (r : Res
 table_ok told name bytes at (Ok t) same h = IsConfigurationTable-told told name bytes at t same h
 table_ok told name bytes at (Err _) same h = tt
 
-pub table_err : (told : Option Files) (name bytes : List ℕ) (at : ℕ) (r : Result Table FileRefusal) → IfTold told name (λ image. HasTableBytes bytes image 0 at (length bytes)) → IfErr r (λ e. IfFaultOf e (λ f. at ≤ f.at)) → IfErr r (λ e. IfFaultOf e (λ f. IsLeast (HasTableFaultAt bytes 0) (f.at - at) f.why))
-    → IfErr r (λ e. IfFaultOf e (λ f. IfTold told name (λ image. IsLeast (HasTableFaultAt image at) f.at f.why)))
+pub table_err : (told : Option Files) (name bytes : List ℕ) (at : ℕ) (r : Result Table FileRefusal) → IfTold told name (λ image. HasTableBytes bytes image 0 at (length bytes)) → IfErr r (λ e. IfFaultOf e (λ f. at ≤ f.at)) → IfErr r (λ e. IfFaultOf e (λ f. IsLeastFault (HasTableFaultAt bytes 0) (f.at - at) f.why))
+    → IfErr r (λ e. IfFaultOf e (λ f. IfTold told name (λ image. IsLeastFault (HasTableFaultAt image at) f.at f.why)))
 table_err told name bytes at (Ok t) same behind h = tt
-table_err told name bytes at (Err (refusal.Fault f)) same behind h = IsLeast-told told name bytes at f.at f.why same behind h
+table_err told name bytes at (Err (refusal.Fault f)) same behind h = IsLeastFault-told told name bytes at f.at f.why same behind h
 table_err told name bytes at (Err _) same behind h = tt
 
 -- a refusal of the table has its cause in the image
 pub table_refusal-told : (told : Option Files) (name : List ℕ) (size at : ℕ) (p : Pointer) (r : FileRefusal) → IsSizeTold told name (Some size) → IfTold told name (λ image. IsFirstPointerAt image at × IsFloatingPointer p (part image at 16)) → HasRightPointer p size → default_number p ≡ 0 → IsTableRefusal r
-    → IfFaultOf r (λ f. IfTold told name (λ image. IsLeast (HasTableFaultAt image p.address) f.at f.why)) → IfTold told name (λ image. IsFileCauseOf image r)
+    → IfFaultOf r (λ f. IfTold told name (λ image. IsLeastFault (HasTableFaultAt image p.address) f.at f.why)) → IfTold told name (λ image. IsFileCauseOf image r)
 table_refusal-told told name size at p refusal.NoPointer is_size found right listed fits h = absurd fits
 table_refusal-told told name size at p (refusal.Fault f) is_size found right listed fits h = table_fault-told told name size at f.at p f.why is_size found right listed h
 table_refusal-told told name size at p refusal.Read is_size found right listed fits h = IfTold-all told name (λ image. Unit {0}) (λ image. tt)

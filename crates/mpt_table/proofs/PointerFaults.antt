@@ -1,16 +1,16 @@
 -- The faults of the floating pointer from left to right: once a row doesn't stand, no fault is before the next row. They are
 -- those of the image in which it stands.
-use Rattle.std.proofs.Common.{◌≡◌, ◌≢◌, ℕ, ◌+◌, ◌≤◌, ◌<◌, List, length, sym, ◌∙◌, arith}
+use Rattle.std.proofs.Common.{◌≡◌, ◌≢◌, ℕ, ◌+◌, ◌≤◌, ◌<◌, List, length, sym, ◌∙◌, subst, arith}
 use Rattle.mpt_base.specs.Bytes.{part}
 use Rattle.mpt_spec.specs.declared.pointer.Pointer.{Pointer}
 use Rattle.mpt_spec.specs.Pointer.{IsFloatingPointer}
+use Rattle.mpt_spec.specs.Revision.{IsKnownRevision}
 use Rattle.mpt_spec.specs.Table.{default_number}
 use Rattle.mpt_spec.proofs.CallerLemmas.{IsFloatingPointer-fields}
 use Rattle.mpt_table.specs.Header.{HasRightPointer, IsPointerFault}
-use Rattle.mpt_table.specs.Least.{IsLeast}
 use Rattle.mpt_base.specs.declared.fault.Reason.{Reason}
 use Rattle.mpt_base.specs.declared.fault.Reason.TheVariants as why
-use Rattle.mpt_spec.specs.Faults.{fault_order, HasPointerFaultAt, HasNoPointerFault}
+use Rattle.mpt_spec.specs.Faults.{fault_order, HasPointerFaultAt, HasNoPointerFault, IsLeastFault}
 
 -- no fault of the floating pointer is before this one
 abbrev pub NoneBefore : Pointer → ℕ → ℕ → ℕ → Reason → Type 0
@@ -45,7 +45,7 @@ none_before_revision p size at some inside j why.BadRevision h = omega arith
 none_before_revision p size at some inside j why.BadDefault h = omega arith
 none_before_revision p size at some inside j _ h = absurd h
 
-pub none_before_default : (p : Pointer) (size at : ℕ) → HasBody p → HasHeaderInside p size → p.revision ≡ 4 → NoneBefore p size at (at + 11) why.BadDefault
+pub none_before_default : (p : Pointer) (size at : ℕ) → HasBody p → HasHeaderInside p size → IsKnownRevision p.revision → NoneBefore p size at (at + 11) why.BadDefault
 none_before_default p size at some inside revision j why.NoTable h = absurd (some h.1 h.2)
 none_before_default p size at some inside revision j why.TableOutside h = absurd (omega (arith, inside h.1, h.3))
 none_before_default p size at some inside revision j why.BadRevision h = absurd (h.1 revision)
@@ -75,7 +75,7 @@ IsPointerFault-in p image at k why.NoTable there h =
 IsPointerFault-in p image at k why.TableOutside there h =
     let f = IsFloatingPointer-fields p image at there in (h.0, sym f.default ∙ h.1, λ e. h.2 (f.address ∙ e), omega (arith, f.address, h.3))
 IsPointerFault-in p image at k why.BadRevision there h =
-    let f = IsFloatingPointer-fields p image at there in (h.0, λ e. h.1 (f.revision ∙ e))
+    let f = IsFloatingPointer-fields p image at there in (h.0, λ known. h.1 (subst (λ (r : ℕ). IsKnownRevision r) (sym f.revision) known))
 IsPointerFault-in p image at k why.BadDefault there h =
     let f = IsFloatingPointer-fields p image at there in (h.0, omega (arith, f.default, h.1))
 IsPointerFault-in p image at k _ there h = absurd h
@@ -86,13 +86,13 @@ IsPointerFault-of p image at k why.NoTable there h =
 IsPointerFault-of p image at k why.TableOutside there h =
     let f = IsFloatingPointer-fields p image at there in (h.0, f.default ∙ h.1, λ e. h.2 (sym f.address ∙ e), omega (arith, f.address, h.3))
 IsPointerFault-of p image at k why.BadRevision there h =
-    let f = IsFloatingPointer-fields p image at there in (h.0, λ e. h.1 (sym f.revision ∙ e))
+    let f = IsFloatingPointer-fields p image at there in (h.0, λ known. h.1 (subst (λ (r : ℕ). IsKnownRevision r) f.revision known))
 IsPointerFault-of p image at k why.BadDefault there h =
     let f = IsFloatingPointer-fields p image at there in (h.0, omega (arith, f.default, h.1))
 IsPointerFault-of p image at k _ there h = absurd h
 
 -- the first fault of the floating pointer is the first of those in the image
-pub IsPointerFault-first : (p : Pointer) (image : List ℕ) (at k : ℕ) (w : Reason) → IsFloatingPointer p (part image at 16) → IsLeast (IsPointerFault p (length image) at) k w → IsLeast (HasPointerFaultAt image at) k w
+pub IsPointerFault-first : (p : Pointer) (image : List ℕ) (at k : ℕ) (w : Reason) → IsFloatingPointer p (part image at 16) → IsLeastFault (IsPointerFault p (length image) at) k w → IsLeastFault (HasPointerFaultAt image at) k w
 IsPointerFault-first p image at k w there h = record {
   stands = IsPointerFault-in p image at k w there h.stands;
   least = λ j other g. h.least j other (IsPointerFault-of p image at j other there g);

@@ -2,9 +2,10 @@
 use Rattle.std.proofs.Common.{◌≡◌, ℕ, ◌+◌, ◌≤◌, List, arith}
 use Rattle.mpt_base.specs.declared.fault.Reason.{Reason}
 use Rattle.mpt_base.specs.declared.fault.Reason.TheVariants as why
-use Rattle.std.specs.Prelude.{slice_index, codes}
+use Rattle.std.specs.Prelude.{codes}
 use Rattle.mpt_base.specs.Bytes.{part}
-use Rattle.mpt_spec.specs.Table.{base_end, ext_end, HasBaseInside, HasExtInside}
+use Rattle.mpt_spec.specs.Revision.{IsKnownRevision}
+use Rattle.mpt_spec.specs.Table.{revision_at, base_end, ext_end, HasBaseInside, HasExtInside}
 use Rattle.mpt_spec.specs.Entries.{IsBaseFaultIn}
 use Rattle.mpt_spec.specs.Extended.{IsExtFaultIn}
 use Rattle.mpt_spec.specs.Faults.{fault_order, HasTableFaultAt}
@@ -25,7 +26,7 @@ none_before_revision image at signature inside j why.ShortLength h = absurd (ome
 none_before_revision image at signature inside j why.LengthOutside h = absurd (omega arith)
 none_before_revision image at signature inside j other h = omega (arith, HasTableFaultAt-offset image at j other h)
 
-pub none_before_checksum : (image : List ℕ) (at : ℕ) → part image at 4 ≡ codes "PCMP" → HasBaseInside image at → slice_index image (at + 6) ≡ 4 → NoneBefore image at (at + 7) why.BadSum
+pub none_before_checksum : (image : List ℕ) (at : ℕ) → part image at 4 ≡ codes "PCMP" → HasBaseInside image at → IsKnownRevision (revision_at image at) → NoneBefore image at (at + 7) why.BadSum
 none_before_checksum image at signature inside revision j why.BadSignature h = absurd (h.1 signature)
 none_before_checksum image at signature inside revision j why.ShortLength h = absurd (omega arith)
 none_before_checksum image at signature inside revision j why.LengthOutside h = absurd (omega arith)

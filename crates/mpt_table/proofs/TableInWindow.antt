@@ -1,13 +1,12 @@
 -- The first fault of a table is the first wherever its bytes are.
 use Rattle.std.proofs.Common.{◌≡◌, ℕ, ◌+◌, ◌-◌, ◌≤◌, List, subst, arith}
 use Rattle.mpt_base.specs.declared.fault.Reason.{Reason}
-use Rattle.mpt_spec.specs.Faults.{HasTableFaultAt}
+use Rattle.mpt_spec.specs.Faults.{HasTableFaultAt, IsLeastFault}
 use Rattle.mpt_spec.proofs.FirstFaultLemmas.{HasTableFaultAt-offset}
 use Rattle.mpt_spec.proofs.TableWindowLemmas.{HasTableBytes, HasTableBytes-sym, HasTableFaultAt-moved}
-use Rattle.mpt_table.specs.Least.{IsLeast}
 
-pub IsLeast-moved : (a b : List ℕ) (i j n k : ℕ) (w : Reason) → HasTableBytes a b i j n → IsLeast (HasTableFaultAt a i) (i + k) w → IsLeast (HasTableFaultAt b j) (j + k) w
-IsLeast-moved a b i j n k w same h = record {
+pub IsLeastFault-moved : (a b : List ℕ) (i j n k : ℕ) (w : Reason) → HasTableBytes a b i j n → IsLeastFault (HasTableFaultAt a i) (i + k) w → IsLeastFault (HasTableFaultAt b j) (j + k) w
+IsLeastFault-moved a b i j n k w same h = record {
   stands = HasTableFaultAt-moved a b i j n k w same h.stands;
   least = λ x other there.
       let from : j ≤ x = omega (arith, HasTableFaultAt-offset b j x other there) in

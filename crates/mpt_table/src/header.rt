@@ -1,24 +1,20 @@
 //! The header of the configuration table, its faults from left to right (MultiProcessor Specification
 //! 1.4, section 4.2, figure 4-3).
 
-ghost use Rattle.std.specs.Prelude.{◌≡◌, ◌+◌, ◌≤◌, ◌↔◌, ◌∷◌, length, slice_index, codes, IsTrue, IfSome, IfNone};
+ghost use Rattle.std.specs.Prelude.{◌≡◌, ◌≢◌, ◌+◌, ◌≤◌, ◌↔◌, ◌∷◌, length, slice_index, codes, IsTrue, IfSome, IfNone, MatchBool};
 ghost use Rattle.mpt_base.specs.Bytes.{part, SumsToZero};
-ghost use Rattle.mpt_spec.specs.Table.{base_length_at, count_at, ext_length_at, IsHeaderAt};
-ghost use Rattle.mpt_spec.specs.Faults.{HasTableFaultAt};
-ghost use Rattle.mpt_table.specs.Least.{IsLeast};
+ghost use Rattle.mpt_spec.specs.Table.{base_length_at, count_at, ext_length_at, revision_at, reserved_at, old_at, IsHeaderAt};
+ghost use Rattle.mpt_spec.specs.Faults.{HasTableFaultAt, IsLeastFault};
 ghost use Rattle.mpt_table.specs.Header.{HasRightHeader, HasRightCount, HasRightExtPart};
 
 use mpt_base::{Fault, Reason, bytes_at, part_at, sum8, u16_at, u32_at};
-use mpt_spec::{Base, Ext, Sequence, Table};
+use mpt_spec::{Base, Ext, OLD_REVISION, Sequence, Table, is_known_revision};
 
 /// The length of the header in bytes.
 pub(crate) const HEADER_LENGTH: usize = 44;
 
 /// The first four bytes of the header.
 const SIGNATURE: [u8; 4] = *b"PCMP";
-
-/// The revision byte of specification 1.4.
-pub(crate) const REVISION: u8 = 4;
 
 /// The base length: the bytes of the base table, the header included.
 pub(crate) fn base_length(image: &[u8], at: usize) -> usize
@@ -36,12 +32,17 @@ pub(crate) fn entry_count(image: &[u8], at: usize) -> usize
     usize::from(u16_at(image, at + 34))
 }
 
-/// The extended length: the bytes of the extended part.
+/// The bytes of the extended part: those that the extended length says, and none at revision 1.
 pub(crate) fn ext_length(image: &[u8], at: usize) -> usize
     requires { at + 44 ≤ length image.now }
     ensures { result ≡ ext_length_at image.now at }
 {
-    usize::from(u16_at(image, at + 40))
+    let revision = image[at + 6];
+    if revision == OLD_REVISION {
+        0
+    } else {
+        usize::from(u16_at(image, at + 40))
+    }
 }
 
 /// A fault at an offset of the image.
@@ -68,7 +69,7 @@ fn has_checksum(image: &[u8], at: usize, base_length: usize) -> bool
 /// The first fault of the header up to the checksum of the base table.
 pub(crate) fn header_fault(image: &[u8], at: usize) -> Option<Fault>
     requires { at + 44 ≤ length image.now }
-    ensures some { IfSome result (λ f. IsLeast (HasTableFaultAt image.now at) f.at f.why) }
+    ensures some { IfSome result (λ f. IsLeastFault (HasTableFaultAt image.now at) f.at f.why) }
     ensures none { IfNone result (HasRightHeader image.now at) }
 {
     if !has_signature(image, at) {
@@ -81,7 +82,7 @@ pub(crate) fn header_fault(image: &[u8], at: usize) -> Option<Fault>
     if image.len() - at < base_length {
         return Some(fault_at(at + 4, Reason::LengthOutside));
     }
-    if image[at + 6] != REVISION {
+    if !is_known_revision(image[at + 6]) {
         return Some(fault_at(at + 6, Reason::BadRevision));
     }
     if !has_checksum(image, at, base_length) {
@@ -90,12 +91,17 @@ pub(crate) fn header_fault(image: &[u8], at: usize) -> Option<Fault>
     None
 }
 
+// whether the extended part, which revision 1 hasn't, sums to zero with its checksum
 fn has_ext_checksum(image: &[u8], at: usize, base_end: usize, ext_length: usize) -> bool
     requires header { at + 44 ≤ length image.now }
     requires inside { base_end + ext_length ≤ length image.now }
-    ensures { IsTrue result
-        ↔ SumsToZero (slice_index image.now (at + 42) ∷ part image.now base_end ext_length) }
+    ensures { MatchBool result
+        (revision_at image.now at ≢ 1 → SumsToZero (slice_index image.now (at + 42) ∷ part image.now base_end ext_length))
+        ((revision_at image.now at ≢ 1) × (¬ SumsToZero (slice_index image.now (at + 42) ∷ part image.now base_end ext_length))) }
 {
+    if image[at + 6] == OLD_REVISION {
+        return true;
+    }
     sum8(part_at(image, base_end, ext_length)).wrapping_add(image[at + 42]) == 0
 }
 
@@ -104,7 +110,7 @@ pub(crate) fn ext_header_fault(image: &[u8], at: usize) -> Option<Fault>
     requires header { at + 44 ≤ length image.now }
     requires right { HasRightHeader image.now at }
     requires count { HasRightCount image.now at }
-    ensures some { IfSome result (λ f. IsLeast (HasTableFaultAt image.now at) f.at f.why) }
+    ensures some { IfSome result (λ f. IsLeastFault (HasTableFaultAt image.now at) f.at f.why) }
     ensures none { IfNone result (HasRightExtPart image.now at) }
 {
     let base_end = at + base_length(image, at);
@@ -116,6 +122,30 @@ pub(crate) fn ext_header_fault(image: &[u8], at: usize) -> Option<Fault>
         return Some(fault_at(at + 42, Reason::BadExtSum));
     }
     None
+}
+
+// the reserved byte, 0 at revision 1
+fn reserved(image: &[u8], at: usize) -> u8
+    requires { at + 44 ≤ length image.now }
+    ensures { result ≡ reserved_at image.now at }
+{
+    if image[at + 6] == OLD_REVISION {
+        0
+    } else {
+        image[at + 43]
+    }
+}
+
+// bytes 40 to 43 at revision 1, zero at any other
+fn old(image: &[u8], at: usize) -> [u8; 4]
+    requires { at + 44 ≤ length image.now }
+    ensures { result ≡ old_at image.now at }
+{
+    if image[at + 6] == OLD_REVISION {
+        bytes_at(image, at + 40)
+    } else {
+        [0; 4]
+    }
 }
 
 /// The table with the fields of the header and these entries.
@@ -133,7 +163,8 @@ pub(crate) fn table_of(image: &[u8], at: usize, base: Vec<Base>, ext: Vec<Ext>) 
         oem_table: u32_at(image, at + 28),
         oem_size: u16_at(image, at + 32),
         local_address: u32_at(image, at + 36),
-        reserved: image[at + 43],
+        reserved: reserved(image, at),
+        old: old(image, at),
         base: Sequence::new(base),
         ext: Sequence::new(ext),
     }

@@ -4,11 +4,11 @@
 ghost use Rattle.std.specs.Prelude.{◌≡◌, ◌≢◌, ◌+◌, ◌≤◌, ◌<◌, IfSome, IfNone, MatchBool};
 ghost use Rattle.mpt_spec.specs.Table.{default_number};
 ghost use Rattle.mpt_table.specs.Header.{HasRightPointer, IsPointerFault};
-ghost use Rattle.mpt_table.specs.Least.{IsLeast};
+ghost use Rattle.mpt_spec.specs.Faults.{IsLeastFault};
 
-use crate::header::{HEADER_LENGTH, REVISION, fault_at};
+use crate::header::{HEADER_LENGTH, fault_at};
 use mpt_base::{Fault, Reason};
-use mpt_spec::Pointer;
+use mpt_spec::{Pointer, is_known_revision};
 
 /// The highest number of a default configuration.
 const LAST_DEFAULT: u8 = 7;
@@ -32,7 +32,7 @@ fn has_header_inside(size: u64, pointer: &Pointer) -> bool
 /// The first fault of the floating pointer that stands at `at`.
 pub(crate) fn pointer_fault(size: u64, at: usize, pointer: &Pointer) -> Option<Fault>
     requires inside { at + 16 ≤ size }
-    ensures some { IfSome result (λ f. IsLeast (IsPointerFault pointer.now size at) f.at f.why) }
+    ensures some { IfSome result (λ f. IsLeastFault (IsPointerFault pointer.now size at) f.at f.why) }
     ensures none { IfNone result (HasRightPointer pointer.now size) }
 {
     if !has_body(pointer) {
@@ -41,7 +41,7 @@ pub(crate) fn pointer_fault(size: u64, at: usize, pointer: &Pointer) -> Option<F
     if !has_header_inside(size, pointer) {
         return Some(fault_at(at + 4, Reason::TableOutside));
     }
-    if pointer.revision != REVISION {
+    if !is_known_revision(pointer.revision) {
         return Some(fault_at(at + 9, Reason::BadRevision));
     }
     if pointer.features[0] > LAST_DEFAULT {

@@ -9,9 +9,8 @@ ghost use Rattle.mpt_spec.specs.Pointer.{IsFloatingPointer};
 ghost use Rattle.mpt_spec.specs.Search.{IsFirstPointerAt, HasNoPointer};
 ghost use Rattle.mpt_spec.specs.Entries.{AreBaseEntries, IsBaseFaultIn};
 ghost use Rattle.mpt_spec.specs.Table.{base_end, count_at, default_number, IsConfigurationTable, IsBodyOf, Describes};
-ghost use Rattle.mpt_spec.specs.Faults.{HasTableFaultAt, IsFirstFault};
+ghost use Rattle.mpt_spec.specs.Faults.{HasTableFaultAt, IsFirstFault, IsLeastFault};
 ghost use Rattle.mpt_entries.specs.Answers.{IfFault};
-ghost use Rattle.mpt_table.specs.Least.{IsLeast};
 ghost use Rattle.mpt_table.specs.Header.{HasRightPointer, HasRightHeader, HasRightCount, HasRightExtPart};
 ghost use Rattle.mpt_table.specs.Answers.{IsCauseOf, AnswersTables, AnswersFault};
 
@@ -37,7 +36,7 @@ fn counted_base(alloc: Global, image: &[u8], at: usize) -> Result<Result<Vec<Bas
         AreBaseEntries es.items image.now (at + 44) (base_end image.now at))) }
     ensures fault { IfOk result (λ base. IfErr base (λ f.
         IsBaseFaultIn image.now (at + 44) (base_end image.now at) f.at f.why)) }
-    ensures miscounted { IfFault result (λ f. IsLeast (HasTableFaultAt image.now at) f.at f.why) }
+    ensures miscounted { IfFault result (λ f. IsLeastFault (HasTableFaultAt image.now at) f.at f.why) }
 {
     let base_end = at + base_length(image, at);
     match read_base(alloc, image, at + HEADER_LENGTH, base_end) {
@@ -60,7 +59,7 @@ fn with_ext(alloc: Global, image: &[u8], at: usize, base: Vec<Base>) -> Result<T
     requires ext_part { HasRightExtPart image.now at }
     requires entries { AreBaseEntries base.items image.now (at + 44) (base_end image.now at) }
     ensures table { IfOk result (λ t. IsConfigurationTable t image.now at) }
-    ensures fault { IfFault result (λ f. IsLeast (HasTableFaultAt image.now at) f.at f.why) }
+    ensures fault { IfFault result (λ f. IsLeastFault (HasTableFaultAt image.now at) f.at f.why) }
 {
     let base_end = at + base_length(image, at);
     match read_ext(alloc, image, base_end, base_end + ext_length(image, at)) {
@@ -74,7 +73,7 @@ fn with_ext(alloc: Global, image: &[u8], at: usize, base: Vec<Base>) -> Result<T
 pub(crate) fn read_table(alloc: Global, image: &[u8], at: usize) -> Result<Table, Stop>
     requires { at + 44 ≤ length image.now }
     ensures table { IfOk result (λ t. IsConfigurationTable t image.now at) }
-    ensures fault { IfFault result (λ f. IsLeast (HasTableFaultAt image.now at) f.at f.why) }
+    ensures fault { IfFault result (λ f. IsLeastFault (HasTableFaultAt image.now at) f.at f.why) }
 {
     if let Some(fault) = header_fault(image, at) {
         return Err(Stop::Fault(fault));
@@ -96,7 +95,7 @@ fn body_of(alloc: Global, image: &[u8], pointer: &Pointer) -> Result<Body, Stop>
     ensures body { IfOk result (λ b. IsBodyOf b pointer.now image.now) }
     ensures listed { IfFault result (λ f. default_number pointer.now ≡ 0) }
     ensures fault { IfFault result (λ f.
-        IsLeast (HasTableFaultAt image.now pointer.now.address) f.at f.why) }
+        IsLeastFault (HasTableFaultAt image.now pointer.now.address) f.at f.why) }
 {
     match pointer.features[0] {
         0 => Ok(Body::Listed(read_table(alloc, image, pointer.address as usize)?)),

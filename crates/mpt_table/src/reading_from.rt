@@ -9,8 +9,7 @@ ghost use Rattle.mpt_spec.specs.Pointer.{IsFloatingPointer};
 ghost use Rattle.mpt_spec.specs.Search.{IsFirstPointerAt, HasNoPointer};
 ghost use Rattle.mpt_spec.specs.Table.{default_number, IsBodyOf, Describes};
 ghost use Rattle.mpt_spec.specs.Canonical.{IsWellFormedBody, IsWellFormed};
-ghost use Rattle.mpt_spec.specs.Faults.{HasTableFaultAt, IsFirstFault};
-ghost use Rattle.mpt_table.specs.Least.{IsLeast};
+ghost use Rattle.mpt_spec.specs.Faults.{HasTableFaultAt, IsFirstFault, IsLeastFault};
 ghost use Rattle.mpt_table.specs.Header.{HasRightPointer};
 ghost use Rattle.mpt_table.specs.Windows.{IfTold, IfFaultOf, IsTableRefusal, IsPlaceIn, IsFileCauseOf, IsTold, AnswersFileTables, AnswersNoPointer, AnswersFileFault};
 
@@ -43,7 +42,7 @@ fn body_from<S: Shelf>(
     ensures well_formed { IfOk result (λ b. IsWellFormedBody b pointer.now) }
     ensures listed { IfErr result (λ r. default_number pointer.now ≡ 0) }
     ensures fault { IfErr result (λ r. IfFaultOf r (λ f. IfTold (S.files shelf.old) name.now
-        (λ image. IsLeast (HasTableFaultAt image pointer.now.address) f.at f.why))) }
+        (λ image. IsLeastFault (HasTableFaultAt image pointer.now.address) f.at f.why))) }
     ensures inside { IfErr result (λ r. IfFaultOf r (λ f. f.at < size)) }
     ensures refusal { IfErr result IsTableRefusal }
 {

@@ -5,8 +5,7 @@ ghost use Rattle.std.specs.Prelude.{◌≡◌, ◌≢◌, ℕ, ◌+◌, ◌-◌,
 ghost use Rattle.mpt_base.specs.Outside.{Rose, IsSizeTold};
 ghost use Rattle.mpt_spec.specs.Table.{base_length_at, ext_length_at, IsConfigurationTable};
 ghost use Rattle.mpt_spec.specs.Canonical.{IsWellFormedTable};
-ghost use Rattle.mpt_spec.specs.Faults.{HasTableFaultAt};
-ghost use Rattle.mpt_table.specs.Least.{IsLeast};
+ghost use Rattle.mpt_spec.specs.Faults.{HasTableFaultAt, IsLeastFault};
 ghost use Rattle.mpt_table.specs.Windows.{IfTold, IfFaultOf, IsTableRefusal};
 
 use crate::header::{HEADER_LENGTH, base_length, ext_length};
@@ -63,7 +62,7 @@ fn table_in(alloc: Global, bytes: &[u8], at: u64) -> Result<Table, FileRefusal>
     ensures table { IfOk result (λ t. IsConfigurationTable t bytes.now 0) }
     ensures well_formed { IfOk result IsWellFormedTable }
     ensures fault { IfErr result (λ r. IfFaultOf r (λ f.
-        IsLeast (HasTableFaultAt bytes.now 0) (f.at - at) f.why)) }
+        IsLeastFault (HasTableFaultAt bytes.now 0) (f.at - at) f.why)) }
     ensures behind { IfErr result (λ r. IfFaultOf r (λ f. at ≤ f.at)) }
     ensures inside { IfErr result (λ r. IfFaultOf r (λ f. f.at < at + length bytes.now)) }
     ensures no_read { ¬ (result ≡ Err FileRefusal.Read) }
@@ -98,7 +97,7 @@ pub(crate) fn table_from<S: Shelf>(
     ensures table { IfOk result (λ t. IfTold (S.files shelf.old) name.now
         (λ image. IsConfigurationTable t image at)) }
     ensures fault { IfErr result (λ r. IfFaultOf r (λ f. IfTold (S.files shelf.old) name.now
-        (λ image. IsLeast (HasTableFaultAt image at) f.at f.why))) }
+        (λ image. IsLeastFault (HasTableFaultAt image at) f.at f.why))) }
     ensures well_formed { IfOk result IsWellFormedTable }
     ensures inside { IfErr result (λ r. IfFaultOf r (λ f. f.at < size)) }
     ensures refusal { IfErr result IsTableRefusal }

@@ -1,4 +1,4 @@
--- The base table with its checksum, and its header written in four pieces.
+-- The base table with its checksum, and its header written in five pieces.
 use Rattle.std.proofs.Common.{◌≡◌, ℕ, List, [], ◌∷◌, ◌++◌, set, refl, ap, ◌∙◌, append_assoc}
 use Rattle.mpt_base.specs.Writing.{checksum_of}
 use Rattle.mpt_spec.specs.declared.tables.Table.{Table}
@@ -15,9 +15,9 @@ sealed_base_table t ext_part bytes h =
     ∙ ap (λ xs. set (base_table_bytes t 0 ext_part) 7 (checksum_of xs)) (set-base_table_bytes t ext_part 0 0)
     ∙ set-base_table_bytes t ext_part 0 (checksum_of (base_table_bytes t 0 ext_part))
 
--- the header in four pieces
-pub header_joined : (old x y z new c w o p a b d e f g : List ℕ) (r s : ℕ) → x ≡ old ++ (c ++ (w ++ r ∷ s ∷ [])) → y ≡ x ++ o → z ≡ y ++ p → new ≡ z ++ (a ++ (b ++ (d ++ (e ++ (f ++ g)))))
-    → new ≡ old ++ (c ++ (w ++ r ∷ s ∷ (((((((o ++ p) ++ a) ++ b) ++ d) ++ e) ++ f) ++ g)))
-header_joined old x y z new c w o p a b d e f g r s hx hy hz hn =
-    let joined : (((old ++ (c ++ (w ++ r ∷ s ∷ []))) ++ o) ++ p) ++ (a ++ (b ++ (d ++ (e ++ (f ++ g))))) ≡ old ++ (c ++ (w ++ r ∷ s ∷ (((((((o ++ p) ++ a) ++ b) ++ d) ++ e) ++ f) ++ g))) = simp append_assoc refl in
-    hn ∙ ap (λ u. u ++ (a ++ (b ++ (d ++ (e ++ (f ++ g)))))) (hz ∙ ap (λ u. u ++ p) (hy ∙ ap (λ u. u ++ o) hx)) ∙ joined
+-- the header in five pieces
+pub header_joined : (old x y z v new c w o p a b d e g : List ℕ) (r s : ℕ) → x ≡ old ++ (c ++ (w ++ r ∷ s ∷ [])) → y ≡ x ++ o → z ≡ y ++ p → v ≡ z ++ (a ++ (b ++ (d ++ e))) → new ≡ v ++ g
+    → new ≡ old ++ (c ++ (w ++ r ∷ s ∷ ((((((o ++ p) ++ a) ++ b) ++ d) ++ e) ++ g)))
+header_joined old x y z v new c w o p a b d e g r s hx hy hz hv hn =
+    let joined : ((((old ++ (c ++ (w ++ r ∷ s ∷ []))) ++ o) ++ p) ++ (a ++ (b ++ (d ++ e)))) ++ g ≡ old ++ (c ++ (w ++ r ∷ s ∷ ((((((o ++ p) ++ a) ++ b) ++ d) ++ e) ++ g))) = simp append_assoc refl in
+    hn ∙ ap (λ u. u ++ g) (hv ∙ ap (λ u. u ++ (a ++ (b ++ (d ++ e)))) (hz ∙ ap (λ u. u ++ p) (hy ∙ ap (λ u. u ++ o) hx))) ∙ joined

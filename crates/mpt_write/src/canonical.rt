@@ -3,9 +3,9 @@
 //! are this project's own idea of canonical.
 
 ghost use Rattle.std.specs.Prelude.{◌≡◌, ◌↔◌, map, IfOk};
-ghost use Rattle.mpt_spec.specs.Canonical.{canonical_base, canonical_ext, canonical_body, canonical_of, in_type_order, IsCanonical, FitsInImage};
+ghost use Rattle.mpt_spec.specs.Canonical.{canonical_base, canonical_ext, canonical_table, canonical_body, canonical_of, in_type_order, IsCanonical, FitsInImage};
 
-use crate::clearing::{canonical_base, canonical_ext, canonical_pointer};
+use crate::clearing::{cleared_old, cleared_reserved};
 use crate::order::order;
 use mpt_base::NoMemory;
 use mpt_spec::{Base, Body, Ext, Sequence, Table, Tables};
@@ -16,7 +16,7 @@ fn cleared_bases(alloc: Global, entries: &[Base]) -> Result<Vec<Base>, AllocErro
 {
     let mut out = Vec::new(alloc);
     for entry in entries {
-        out.push(canonical_base(*entry))?;
+        out.push(entry.cleared())?;
     }
     Ok(out)
 }
@@ -26,7 +26,7 @@ fn cleared_exts(alloc: Global, entries: Vec<Ext>) -> Result<Vec<Ext>, AllocError
 {
     let mut out = Vec::new(alloc);
     for entry in entries {
-        out.push(canonical_ext(entry))?;
+        out.push(entry.cleared())?;
     }
     Ok(out)
 }
@@ -53,7 +53,7 @@ fn canonical_exts(alloc: Global, entries: Vec<Ext>) -> Result<Vec<Ext>, NoMemory
 }
 
 fn canonical_table(alloc: Global, table: Table) -> Result<Table, NoMemory>
-    ensures { IfOk result (λ canonical. canonical ≡ record table { reserved = 0; base = in_type_order (map canonical_base table.base); ext = map canonical_ext table.ext }) }
+    ensures { IfOk result (λ canonical. canonical ≡ canonical_table table) }
 {
     let base = canonical_bases(alloc, table.base.as_slice())?;
     let ext = canonical_exts(alloc, table.ext.into_vec())?;
@@ -64,7 +64,8 @@ fn canonical_table(alloc: Global, table: Table) -> Result<Table, NoMemory>
         oem_table: table.oem_table,
         oem_size: table.oem_size,
         local_address: table.local_address,
-        reserved: 0,
+        reserved: cleared_reserved(table.revision, table.reserved),
+        old: cleared_old(table.revision, table.old),
         base: Sequence::new(base),
         ext: Sequence::new(ext),
     })
@@ -94,7 +95,7 @@ pub fn canon(alloc: Global, tables: Tables) -> Result<Tables, NoMemory>
     match canonical_body(alloc, tables.body) {
         Ok(body) => Ok(Tables {
             at: tables.at,
-            pointer: canonical_pointer(tables.pointer),
+            pointer: tables.pointer.cleared(),
             body,
         }),
         Err(failed) => Err(failed),

@@ -3,13 +3,10 @@
 
 ghost use Rattle.std.specs.Prelude.{◌↔◌, ◌≤◌, IsTrue};
 ghost use Rattle.std.specs.List.{AllByRecursion};
-ghost use Rattle.mpt_spec.specs.Canonical.{IsLawfulExt, IsWellFormedTable, IsWellFormedBody, IsWellFormed, HasBlockPlace, FitsInImage};
+ghost use Rattle.mpt_spec.specs.Canonical.{IsLawfulExt, HasFieldsOfRevision, IsWellFormedTable, IsWellFormedBody, IsWellFormed, HasBlockPlace, FitsInImage};
 
 use crate::sizes::{base_size, block_bytes, ext_size};
-use mpt_spec::{Body, Ext, Pointer, Table, Tables};
-
-/// The revision byte of specification 1.4.
-const REVISION: u8 = 4;
+use mpt_spec::{Body, Ext, OLD_REVISION, Pointer, REVISION, Table, Tables, is_known_revision};
 
 /// The most bytes that a part of a table may have: its length has 16 bits.
 const PART_LIMIT: u64 = 65_535;
@@ -42,10 +39,20 @@ fn are_lawful(entries: &[Ext]) -> bool
     entries.iter().all(|entry| is_lawful(entry))
 }
 
+// whether the table has the fields of its revision
+fn has_fields_of_revision(table: &Table) -> bool
+    ensures { IsTrue result ↔ HasFieldsOfRevision table.now }
+{
+    (table.revision == REVISION && table.old == [0; 4])
+        || (table.revision == OLD_REVISION
+            && table.reserved == 0
+            && table.ext.as_slice().is_empty())
+}
+
 fn is_well_formed_table(table: &Table) -> bool
     ensures { IsTrue result ↔ IsWellFormedTable table.now }
 {
-    table.revision == REVISION
+    has_fields_of_revision(table)
         && are_lawful(table.ext.as_slice())
         && base_size(table) <= PART_LIMIT
         && ext_size(table) <= PART_LIMIT
@@ -64,14 +71,15 @@ fn is_well_formed_body(body: &Body, pointer: &Pointer) -> bool
     }
 }
 
-/// Whether the tables are well formed. Both revisions are 4. Feature byte 1 is the number of the default
-/// configuration, from 1 to 7, or 0 with an address that isn't 0. Opaque extended entries have a type
-/// of at least 131 and at most 253 bytes of rest, each part of the table has at most 65,535 bytes, and
-/// the floating pointer's place is a multiple of 16.
+/// Whether the tables are well formed. Each revision is 1 or 4; a table of revision 4 has a zero `old`,
+/// and one of revision 1 a zero `reserved` and no extended entries. Feature byte 1 is the number of the
+/// default configuration, from 1 to 7, or 0 with an address that isn't 0. Opaque extended entries have a
+/// type of at least 131 and at most 253 bytes of rest, each part of the table has at most 65,535 bytes,
+/// and the floating pointer's place is a multiple of 16.
 pub fn well_formed(tables: &Tables) -> bool
     ensures { IsTrue result ↔ IsWellFormed tables.now }
 {
-    tables.pointer.revision == REVISION
+    is_known_revision(tables.pointer.revision)
         && is_well_formed_body(&tables.body, &tables.pointer)
         && tables.at % 16 == 0
 }

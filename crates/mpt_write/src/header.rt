@@ -3,10 +3,10 @@
 
 ghost use Rattle.std.specs.Prelude.{◌≡◌, ◌+◌, ◌≤◌, ◌++◌, ◌∷◌, [], length, codes, OnOk};
 ghost use Rattle.std.specs.Int.{to_le_bytes, w16, w32};
-ghost use Rattle.mpt_spec.specs.Image.{header_bytes};
+ghost use Rattle.mpt_spec.specs.Image.{header_end, header_bytes};
 
 use mpt_base::{NoMemory, append, put_bytes, put_u16, put_u32};
-use mpt_spec::Table;
+use mpt_spec::{OLD_REVISION, Table};
 
 /// The offset of the checksum.
 pub(crate) const CHECKSUM_AT: usize = 7;
@@ -22,20 +22,32 @@ fn front_of(table: &Table, base_length: u16) -> [u8; 8]
     bytes
 }
 
-// the sixteen bytes behind the product id
-fn back_of(table: &Table, ext_length: u16, ext_checksum: u8) -> [u8; 16]
+// the twelve bytes behind the product id
+fn back_of(table: &Table) -> [u8; 12]
     requires { length table.now.base ≤ 65535 }
-    ensures { result ≡ to_le_bytes w32 table.now.oem_table ++ (to_le_bytes w16 table.now.oem_size ++ (to_le_bytes w16 (length table.now.base) ++ (to_le_bytes w32 table.now.local_address ++ (to_le_bytes w16 ext_length ++ ext_checksum ∷ table.now.reserved ∷ [])))) }
+    ensures { result ≡ to_le_bytes w32 table.now.oem_table ++ (to_le_bytes w16 table.now.oem_size ++ (to_le_bytes w16 (length table.now.base) ++ to_le_bytes w32 table.now.local_address)) }
 {
     let count = table.base.as_slice().len() as u16;
-    let mut bytes = [0; 16];
+    let mut bytes = [0; 12];
     put_u32(&mut bytes, 0, table.oem_table);
     put_u16(&mut bytes, 4, table.oem_size);
     put_u16(&mut bytes, 6, count);
     put_u32(&mut bytes, 8, table.local_address);
-    put_u16(&mut bytes, 12, ext_length);
-    bytes[14] = ext_checksum;
-    bytes[15] = table.reserved;
+    bytes
+}
+
+// the last four bytes: extended length, extended checksum and reserved byte, or as they are kept at
+// revision 1
+fn end_of(table: &Table, ext_length: u16, ext_checksum: u8) -> [u8; 4]
+    ensures { result ≡ header_end table.now ext_length ext_checksum }
+{
+    if table.revision == OLD_REVISION {
+        return table.old;
+    }
+    let mut bytes = [0; 4];
+    put_u16(&mut bytes, 0, ext_length);
+    bytes[2] = ext_checksum;
+    bytes[3] = table.reserved;
     bytes
 }
 
@@ -54,6 +66,7 @@ pub(crate) fn push_header(
     append(out, &front_of(table, base_length))?;
     append(out, &table.oem)?;
     append(out, &table.product)?;
-    append(out, &back_of(table, ext_length, ext_checksum))?;
+    append(out, &back_of(table))?;
+    append(out, &end_of(table, ext_length, ext_checksum))?;
     Ok(())
 }

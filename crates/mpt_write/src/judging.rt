@@ -2,50 +2,27 @@
 //! (MultiProcessor Specification 1.4, sections 4.1 to 4.4; the order is this project's own).
 
 ghost use Rattle.std.specs.Prelude.{◌↔◌, IsTrue};
-ghost use Rattle.std.specs.List.{AllByRecursion};
-ghost use Rattle.mpt_spec.specs.Canonical.{HasClearBits, HasClearExtBits, IsCanonicalBody, IsCanonical};
+ghost use Rattle.mpt_spec.specs.Canonical.{IsCanonicalBody, IsCanonical};
 ghost use Rattle.mpt_spec.specs.declared.tables.Body.TheVariants as body;
 
 use crate::order::is_in_order;
-use mpt_spec::{Base, Body, Ext, Table, Tables};
-
-fn has_clear_bits(entry: &Base) -> bool
-    ensures { IsTrue result ↔ HasClearBits entry.now }
-{
-    match entry {
-        Base::Processor(e) => e.flags < 4 && e.reserved == [0; 8],
-        Base::Bus(_) => true,
-        Base::IoApic(e) => e.flags < 2,
-        Base::IoInt(e) => e.flags < 16,
-        Base::LocalInt(e) => e.flags < 16,
-    }
-}
-
-fn has_clear_ext_bits(entry: &Ext) -> bool
-    ensures { IsTrue result ↔ HasClearExtBits entry.now }
-{
-    match entry {
-        Ext::Hierarchy(e) => e.info < 2 && e.reserved == [0; 3],
-        Ext::Modifier(e) => e.flags < 2,
-        _ => true,
-    }
-}
+use mpt_spec::{Body, Table, Tables};
 
 fn is_canonical_table(table: &Table) -> bool
     ensures { IsTrue result ↔ IsCanonicalBody (body.Listed table.now) }
 {
-    table.reserved == 0
+    table.has_clear_header()
         && table
             .base
             .as_slice()
             .iter()
-            .all(|entry| has_clear_bits(entry))
+            .all(|entry| entry.has_clear_bits())
         && is_in_order(table.base.as_slice())
         && table
             .ext
             .as_slice()
             .iter()
-            .all(|entry| has_clear_ext_bits(entry))
+            .all(|entry| entry.has_clear_bits())
 }
 
 fn is_canonical_body(body: &Body) -> bool
@@ -62,10 +39,5 @@ fn is_canonical_body(body: &Body) -> bool
 pub fn is_canon(tables: &Tables) -> bool
     ensures { IsTrue result ↔ IsCanonical tables.now }
 {
-    let features = &tables.pointer.features;
-    features[1] % 64 == 0
-        && features[2] == 0
-        && features[3] == 0
-        && features[4] == 0
-        && is_canonical_body(&tables.body)
+    tables.pointer.has_clear_bits() && is_canonical_body(&tables.body)
 }

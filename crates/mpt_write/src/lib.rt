@@ -11,6 +11,7 @@ mod header;
 mod image;
 mod judging;
 mod order;
+mod raising;
 mod sizes;
 mod values;
 
@@ -19,4 +20,5 @@ pub use canonical::canon;
 pub use fitting::{fits, well_formed};
 pub use image::write_image;
 pub use judging::is_canon;
+pub use raising::raise;
 pub use sizes::block_bytes;

@@ -108,11 +108,12 @@ fn ext_values(entries: &[Ext])
     }
 }
 
-fn names_value(oem: [u8; 8], product: [u8; 12])
+fn arrays_value(oem: [u8; 8], product: [u8; 12], old: [u8; 4])
     ensures oem { (length oem ≡ 8) × IsByteList oem }
     ensures product { (length product ≡ 12) × IsByteList product }
+    ensures old { (length old ≡ 4) × IsByteList old }
 {
-    let _values = (oem, product);
+    let _values = (oem, product, old);
 }
 
 fn numbers_value(oem_table: u32, oem_size: u16, local_address: u32)
@@ -127,7 +128,7 @@ fn table_value(table: &Table)
     ensures { IsTableValue table.now }
 {
     byte_value(table.revision);
-    names_value(table.oem, table.product);
+    arrays_value(table.oem, table.product, table.old);
     numbers_value(table.oem_table, table.oem_size, table.local_address);
     byte_value(table.reserved);
     base_values(table.base.as_slice());

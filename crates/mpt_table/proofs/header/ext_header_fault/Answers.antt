@@ -1,5 +1,4 @@
 use Rattle.std.proofs.Common.{refl, arith}
-use Rattle.std.proofs.lemmas.Bool.{false≢true}
 use Rattle.mpt_spec.specs.Table.{HasExtInside}
 use Rattle.mpt_table.proofs.TableFaults.{none_before_ext_outside, none_before_ext_checksum}
 use Rattle.mpt_table.proofs.header.ext_header_fault.Goals as goal
@@ -15,6 +14,6 @@ pub returns-then-not-has_ext_checksum-clause-some : goal.returns-then-not-has_ex
 returns-then-not-has_ext_checksum-clause-some c =
     let inside : HasExtInside c.args.image.now c.args.at = record { base = c.requires.right.inside; inside = omega arith } in
     rw c.fault_at-then-not-has_ext_checksum.ensures (record {
-      stands = (refl, inside, λ e. false≢true (c.if-not-has_ext_checksum.ensures.1 (rw (c.base_length.ensures, c.ext_length-ext_length.ensures) e)));
+      stands = (refl, inside, c.if-not-has_ext_checksum.ensures.0, λ e. c.if-not-has_ext_checksum.ensures.1 (rw (c.base_length.ensures, c.ext_length-ext_length.ensures) e));
       least = none_before_ext_checksum c.args.image.now c.args.at c.requires.right c.requires.count inside;
     })

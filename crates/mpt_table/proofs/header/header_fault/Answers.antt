@@ -11,11 +11,11 @@ returns-then-not-has_signature-clause-some c =
       least = none_before_signature c.args.image.now c.args.at;
     })
 
-pub returns-then-image-at-ne-REVISION-clause-some : goal.returns-then-image-at-ne-REVISION-clause-some
-returns-then-image-at-ne-REVISION-clause-some c =
+pub returns-then-not-is_known_revision-clause-some : goal.returns-then-not-is_known_revision-clause-some
+returns-then-not-is_known_revision-clause-some c =
     let inside : HasBaseInside c.args.image.now c.args.at = record { header = omega arith; inside = omega arith } in
-    rw c.fault_at-then-image-at-ne-REVISION.ensures (record {
-      stands = (refl, c.if-image-at-ne-REVISION.true);
+    rw c.fault_at-then-not-is_known_revision.ensures (record {
+      stands = (refl, λ known. false≢true (c.if-not-is_known_revision.ensures.1 known));
       least = none_before_revision c.args.image.now c.args.at (c.if-not-has_signature.ensures.0 refl) inside;
     })
 
@@ -25,5 +25,5 @@ returns-then-not-has_checksum-clause-some c =
     let len = c.base_length-base_length.ensures in
     rw c.fault_at-then-not-has_checksum.ensures (record {
       stands = (refl, inside, λ e. false≢true (c.if-not-has_checksum.ensures.1 (rw len e)));
-      least = none_before_checksum c.args.image.now c.args.at (c.if-not-has_signature.ensures.0 refl) inside c.if-image-at-ne-REVISION.false;
+      least = none_before_checksum c.args.image.now c.args.at (c.if-not-has_signature.ensures.0 refl) inside (c.if-not-is_known_revision.ensures.0 refl);
     })

@@ -1,4 +1,5 @@
 use Rattle.std.proofs.Common.{refl}
+use Rattle.std.proofs.lemmas.Bool.{false≢true}
 use Rattle.mpt_table.proofs.PointerFaults.{none_before_no_table, none_before_table_outside, none_before_revision, none_before_default}
 use Rattle.mpt_table.proofs.pointer_fault.pointer_fault.Goals as goal
 
@@ -17,10 +18,10 @@ returns-then-not-has_header_inside-clause-some c =
       least = none_before_table_outside c.args.pointer.now c.args.size c.args.at c.if-not-has_body.ensures;
     })
 
-pub returns-then-pointer-ne-REVISION-clause-some : goal.returns-then-pointer-ne-REVISION-clause-some
-returns-then-pointer-ne-REVISION-clause-some c =
-    rw c.fault_at-then-pointer-ne-REVISION.ensures (record {
-      stands = (refl, c.if-pointer-ne-REVISION.true);
+pub returns-then-not-is_known_revision-clause-some : goal.returns-then-not-is_known_revision-clause-some
+returns-then-not-is_known_revision-clause-some c =
+    rw c.fault_at-then-not-is_known_revision.ensures (record {
+      stands = (refl, λ known. false≢true (c.if-not-is_known_revision.ensures.1 known));
       least = none_before_revision c.args.pointer.now c.args.size c.args.at c.if-not-has_body.ensures c.if-not-has_header_inside.ensures;
     })
 
@@ -28,5 +29,5 @@ pub returns-then-pointer-gt-LAST_DEFAULT-clause-some : goal.returns-then-pointer
 returns-then-pointer-gt-LAST_DEFAULT-clause-some c =
     rw c.fault_at-then-pointer-gt-LAST_DEFAULT.ensures (record {
       stands = (refl, c.if-pointer-gt-LAST_DEFAULT.true);
-      least = none_before_default c.args.pointer.now c.args.size c.args.at c.if-not-has_body.ensures c.if-not-has_header_inside.ensures c.if-pointer-ne-REVISION.false;
+      least = none_before_default c.args.pointer.now c.args.size c.args.at c.if-not-has_body.ensures c.if-not-has_header_inside.ensures (c.if-not-is_known_revision.ensures.0 refl);
     })
