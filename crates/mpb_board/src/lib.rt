@@ -4,9 +4,11 @@
 
 mod board;
 mod bound;
+mod roster;
 
 pub use board::Board;
 pub use bound::room;
 pub use mpb_spec::{
     Agent, BoardError, Config, CpuConfig, DevWord, Entry, Imcr, Life, Offer, Op, Outcome, What,
 };
+pub use roster::agents;

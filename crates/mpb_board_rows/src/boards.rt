@@ -136,3 +136,115 @@ pub fn old_processor(alloc: Global) -> Result<Option<Config>, AllocError>
     })?;
     Ok(config_of(0x9F, 0, 11, cpus, Vec::new(alloc), true, Vec::new(alloc)))
 }
+
+/// Processors 0 (boot) and 1, of version 10h, and 2, of version 0Fh. The boot program sends INIT and STARTUP
+/// messages in an order that starts each processor once, and looks at them.
+pub fn starts(alloc: Global) -> Result<Option<Config>, AllocError>
+    ensures { IfOk result (λ made. IfSome made (λ c. plan_size c < 2 ^ 32)) }
+{
+    let program = [
+        Op::Startup(1, 0x9F),
+        Op::Check(1),
+        Op::Init(2),
+        Op::Check(2),
+        Op::Init(1),
+        Op::Check(1),
+        Op::Init(1),
+        Op::Startup(1, 0x9F),
+        Op::Init(1),
+        Op::Check(1),
+        Op::Warm(0x9F),
+        Op::Startup(2, 0x9F),
+        Op::Init(2),
+        Op::Init(2),
+        Op::Check(2),
+        Op::Check(3),
+    ]
+    .to_vec(alloc)?;
+    let mut cpus = Vec::new(alloc);
+    cpus.push(CpuConfig {
+        id: 0,
+        version: 0x10,
+        program,
+    })?;
+    cpus.push(CpuConfig {
+        id: 1,
+        version: 0x10,
+        program: Vec::new(alloc),
+    })?;
+    cpus.push(CpuConfig {
+        id: 2,
+        version: 0x0F,
+        program: Vec::new(alloc),
+    })?;
+    Ok(config_of(0x9F, 0, 16, cpus, Vec::new(alloc), false, Vec::new(alloc)))
+}
+
+/// Processors 0 (boot) and 1, which nobody starts. The boot program makes pins 0 to 3 of one I/O APIC a fixed
+/// interrupt, an SMI, an NMI and an ExtINT to every processor. A device pulses each of the four.
+pub fn one_asleep(alloc: Global) -> Result<Option<Config>, AllocError>
+    ensures { IfOk result (λ made. IfSome made (λ c. plan_size c < 2 ^ 32)) }
+{
+    let program = [
+        Op::IoSel(0, 0x11),
+        Op::IoWin(0, 0x0F00_0000),
+        Op::IoSel(0, 0x10),
+        Op::IoWin(0, 0x30),
+        Op::IoSel(0, 0x13),
+        Op::IoWin(0, 0x0F00_0000),
+        Op::IoSel(0, 0x12),
+        Op::IoWin(0, 0x0200),
+        Op::IoSel(0, 0x15),
+        Op::IoWin(0, 0x0F00_0000),
+        Op::IoSel(0, 0x14),
+        Op::IoWin(0, 0x0400),
+        Op::IoSel(0, 0x17),
+        Op::IoWin(0, 0x0F00_0000),
+        Op::IoSel(0, 0x16),
+        Op::IoWin(0, 0x0700),
+        Op::Check(1),
+    ]
+    .to_vec(alloc)?;
+    let mut cpus = Vec::new(alloc);
+    cpus.push(CpuConfig {
+        id: 0,
+        version: 0x10,
+        program,
+    })?;
+    cpus.push(CpuConfig {
+        id: 1,
+        version: 0x10,
+        program: Vec::new(alloc),
+    })?;
+    let words = [
+        DevWord::Pulse(0, 0),
+        DevWord::Pulse(0, 1),
+        DevWord::Pulse(0, 2),
+        DevWord::Pulse(0, 3),
+    ];
+    let mut devices = Vec::new(alloc);
+    devices.push(words.to_vec(alloc)?)?;
+    Ok(config_of(0x9F, 0, 17, cpus, [1].to_vec(alloc)?, false, devices))
+}
+
+/// One processor, which unmasks pin 1 of one I/O APIC as an edge pin, and a device that pulses it twice and pin 2
+/// once.
+pub fn early_pulses(alloc: Global) -> Result<Option<Config>, AllocError>
+    ensures { IfOk result (λ made. IfSome made (λ c. plan_size c < 2 ^ 32)) }
+{
+    let program = [Op::IoSel(0, 0x12), Op::IoWin(0, 0x21)].to_vec(alloc)?;
+    let mut cpus = Vec::new(alloc);
+    cpus.push(CpuConfig {
+        id: 0,
+        version: 0x10,
+        program,
+    })?;
+    let words = [
+        DevWord::Pulse(0, 1),
+        DevWord::Pulse(0, 1),
+        DevWord::Pulse(0, 2),
+    ];
+    let mut devices = Vec::new(alloc);
+    devices.push(words.to_vec(alloc)?)?;
+    Ok(config_of(0x9F, 0, 2, cpus, [1].to_vec(alloc)?, false, devices))
+}

@@ -7,7 +7,8 @@ use std::alloc::{AllocError, Global};
 use std::process::Abort;
 
 /// What is varied: the page that is asked for, the boot processor's id, the length of the boot program,
-/// the second processor's id, the place that an op names, and the pin that a word names.
+/// the second processor's id, the place that an op names, the model of logical destinations that one sets, and
+/// the pin that a word names.
 #[derive(Clone, Copy)]
 struct Parts {
     page: u8,
@@ -15,16 +16,18 @@ struct Parts {
     boot_len: u32,
     second: u8,
     place: u8,
+    model: u8,
     pin: u8,
 }
 
-// whether they are a config: processor 0 starts the second one at page 9Fh, selects a register, and takes
+// whether they are a config: processor 0 starts the second one at page 9Fh, selects a register, takes, and sets a model
 fn are_a_config(alloc: Global, parts: Parts) -> Result<bool, AllocError> {
     let program = [
         Op::Init(parts.second),
         Op::Startup(parts.second, 0x9F),
         Op::IoSel(parts.place, 0x10),
         Op::Take,
+        Op::Dfr(parts.model),
     ]
     .to_vec(alloc)?;
     let mut cpus = Vec::new(alloc);
@@ -70,6 +73,7 @@ fn parts_are_a_config_or_none(rt: HostRuntime) {
         boot_len: 3,
         second: 1,
         place: 0,
+        model: 15,
         pin: 23,
     };
     gives(&rt, alloc, good, true, "as it should be");
@@ -132,4 +136,12 @@ fn parts_are_a_config_or_none(rt: HostRuntime) {
         "no such I/O APIC",
     );
     gives(&rt, alloc, Parts { pin: 24, ..good }, false, "no such pin");
+    gives(&rt, alloc, Parts { model: 0, ..good }, true, "cluster");
+    gives(
+        &rt,
+        alloc,
+        Parts { model: 7, ..good },
+        false,
+        "neither flat nor cluster",
+    );
 }

@@ -58,7 +58,7 @@ pub(crate) fn makes(rt: &impl Abort, board: &mut Board, row: Row) {
         rt,
         "an entry's number, and whether it is made",
         (number, made),
-        (number, Ok(true)),
+        (number, true),
     );
 }
 

@@ -5,6 +5,8 @@
 #[cfg(test)]
 mod boards;
 #[cfg(test)]
+mod calls;
+#[cfg(test)]
 mod configs;
 #[cfg(test)]
 mod harness;

@@ -1,7 +1,6 @@
 //! A row: what an agent is offered, and the entry that comes of it.
 
 use mpb_board::{Agent, Board, Entry, Offer, Op, Outcome, What};
-use mpt_base::NoMemory;
 
 /// An agent, an offer, and the op and the outcome of the entry that comes of it.
 #[derive(Clone, Copy)]
@@ -55,17 +54,26 @@ pub fn sweep(place: u8) -> Row {
 }
 
 /// Whether the board may step so, and its entry is that of the row.
-pub fn is_made(board: &mut Board, row: Row) -> Result<bool, NoMemory> {
-    if !board.can_step(row.agent, row.offer) {
-        return Ok(false);
-    }
-    let entry = board.step(row.agent, row.offer)?;
-    Ok(is_of(&entry, &row))
+pub fn is_made(board: &mut Board, row: Row) -> bool {
+    is_told(board, row.agent, row.offer, row.op, &[row.outcome])
 }
 
-// Whether the entry is that of the row.
-fn is_of(entry: &Entry, row: &Row) -> bool {
-    entry.agent == row.agent
-        && entry.op == row.op
-        && entry.outcomes.as_slice() == [row.outcome].as_slice()
+/// Whether the agent may step with the offer, and its entry has this op and these outcomes.
+pub fn is_told(
+    board: &mut Board,
+    agent: Agent,
+    offer: Offer,
+    op: Op,
+    outcomes: &[Outcome],
+) -> bool {
+    if !board.can_step(agent, offer) {
+        return false;
+    }
+    let entry = board.step(agent, offer);
+    is_of(&entry, agent, op, outcomes)
+}
+
+// Whether the entry is the agent's, of this op, with these outcomes.
+fn is_of(entry: &Entry, agent: Agent, op: Op, outcomes: &[Outcome]) -> bool {
+    entry.agent == agent && entry.op == op && entry.outcomes.as_slice() == outcomes
 }

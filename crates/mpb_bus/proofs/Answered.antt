@@ -1,5 +1,5 @@
 -- What a turn, a meeting and the end tell of what the seats have seen.
-use Rattle.std.proofs.Common.{◌≡◌, Bool, List, [], ◌∷◌, ◌++◌, get_or, map, All, Any, Some, None, refl, sym, ap, ◌∙◌, subst, inl, inr, append-nil}
+use Rattle.std.proofs.Common.{◌≡◌, List, [], ◌∷◌, ◌++◌, get_or, map, All, Any, Some, None, refl, sym, ap, ◌∙◌, subst, inl, inr, append-nil}
 use Rattle.mpb_spec.specs.declared.agent.Agent.{Agent}
 use Rattle.mpb_spec.specs.declared.agent.Offer.{Offer}
 use Rattle.mpb_spec.specs.declared.agent.Op.{Op}
@@ -11,13 +11,13 @@ use Rattle.mpb_spec.specs.May.{MayStep, MayAny, IsQuiescent}
 use Rattle.mpb_laws.proofs.JournalLemmas.{next_may}
 use Rattle.mpb_board.specs.BoardView.{BoardView, state_of}
 use Rattle.mpb_bus.specs.declared.turn.Turn.{Turn}
-use Rattle.mpb_bus.specs.declared.turn.Turn.TheVariants.{Done, Idle, Quiet, NoMemory}
+use Rattle.mpb_bus.specs.declared.turn.Turn.TheVariants.{Done, Idle, Quiet}
 use Rattle.mpb_bus.specs.declared.view.AgentView.{AgentView}
-use Rattle.mpb_bus.specs.Agents.{IsPrefix, entries_of}
+use Rattle.mpb_spec.specs.Agents.{IsPrefix, entries_of}
 use Rattle.mpb_bus.specs.Seats.{AgentSeat, state_seen}
 use Rattle.mpb_bus.specs.Turns.{Answers}
 use Rattle.mpb_bus.specs.Rule.{AgentFits, GrowsBy, taken, given, known_agent}
-use Rattle.mpb_bus.proofs.Lists.{all_mapped, any_mapped}
+use Rattle.mpb_spec.proofs.Lists.{all_mapped, any_mapped}
 use Rattle.mpb_bus.proofs.Journals.{prefix_refl, prefix_push, prefix_trans}
 use Rattle.mpb_bus.proofs.Gives.{mine_given}
 
@@ -27,25 +27,23 @@ module _ (b b' : BoardView) (g : Agent) (f : Offer) where
   grows_on (Done x) h = subst (IsPrefix b.journal) (sym h.journal) (prefix_push b.journal x)
   grows_on Idle h = subst (λ (z : BoardView). IsPrefix b.journal z.journal) (sym h.0) (prefix_refl b.journal)
   grows_on Quiet h = subst (λ (z : BoardView). IsPrefix b.journal z.journal) (sym h.0) (prefix_refl b.journal)
-  grows_on NoMemory h = subst (λ (z : BoardView). IsPrefix b.journal z.journal) (sym h) (prefix_refl b.journal)
 
   -- by an entry of the agent at most
-  pub grows_by : (m : Bool) (a : AgentView) → g ≡ a.agent → (t : Turn) → Answers b g f t b' → GrowsBy (taken b.journal m a) b'.journal
-  grows_by m a is (Done x) h = inr (x, h.journal, h.agent ∙ is)
-  grows_by m a is Idle h = inl (ap (λ (z : BoardView). z.journal) h.0)
-  grows_by m a is Quiet h = inl (ap (λ (z : BoardView). z.journal) h.0)
-  grows_by m a is NoMemory h = inl (ap (λ (z : BoardView). z.journal) h)
+  pub grows_by : (a : AgentView) → g ≡ a.agent → (t : Turn) → Answers b g f t b' → GrowsBy (taken b.journal a) b'.journal
+  grows_by a is (Done x) h = inr (x, h.journal, h.agent ∙ is)
+  grows_by a is Idle h = inl (ap (λ (z : BoardView). z.journal) h.0)
+  grows_by a is Quiet h = inl (ap (λ (z : BoardView). z.journal) h.0)
 
   -- what the agent knows after it has taken the turn and given it back
-  module _ (m m' : Bool) (a : AgentView) (is : g ≡ a.agent) (fits : AgentFits b.plan b.journal m a) (t : Turn) (h : Answers b g f t b') where
+  module _ (a : AgentView) (is : g ≡ a.agent) (fits : AgentFits b.plan b.journal a) (t : Turn) (h : Answers b g f t b') where
     abbrev then : AgentView
-    then = given b'.journal m' (taken b.journal m a)
+    then = given b'.journal (taken b.journal a)
 
     pub sees_on : IsPrefix a.seen then.seen
     sees_on = prefix_trans a.seen b.journal b'.journal fits.seen (grows_on t h)
 
     pub knows_own : then.mine ≡ entries_of then.agent then.seen
-    knows_own = mine_given (taken b.journal m a) b'.journal b.journal refl fits.mine (grows_by m a is t h)
+    knows_own = mine_given (taken b.journal a) b'.journal b.journal refl fits.mine (grows_by a is t h)
 
     pub keeps_olds : All (λ xs. IsPrefix xs then.seen) then.olds
     keeps_olds k d l = prefix_trans (get_or a.olds k d) b.journal b'.journal (fits.olds k d l) (grows_on t h)
@@ -71,9 +69,9 @@ quiet_whole c seen journal p legal quiet = by_rest p.0 (p.1)
         absurd (none-some may.1.0 (sym (quiet x.agent may.0) ∙ may.1.1))
 
 -- the end, said of the seats that are given up
-module _ (c : Plan) (journal : List Entry) (mark : Bool) (seats : List AgentSeat) (agents : List AgentView) (same : agents ≡ map known_agent seats) (fits : All (AgentFits c journal mark) agents) where
-  fits_seats : All (λ s. AgentFits c journal mark (known_agent s)) seats
-  fits_seats = all_mapped (AgentFits c journal mark) known_agent seats agents same fits
+module _ (c : Plan) (journal : List Entry) (seats : List AgentSeat) (agents : List AgentView) (same : agents ≡ map known_agent seats) (fits : All (AgentFits c journal) agents) where
+  fits_seats : All (λ s. AgentFits c journal (known_agent s)) seats
+  fits_seats = all_mapped (AgentFits c journal) known_agent seats agents same fits
 
   pub all_begin : All (λ s. IsPrefix s.seen journal) seats
   all_begin k d l = (fits_seats k d l).seen

@@ -8,23 +8,23 @@ use Rattle.std.proofs.lemmas.Bool.Decides.{nat_tests}
 use Rattle.std.proofs.lemmas.List.Sums.{sum_by-cons}
 use Rattle.atomic_table.specs.Table.{State}
 use Rattle.atomic_table.proofs.Lists.{set_else}
-use Rattle.mpb_spec.specs.declared.entry.Entry.{Entry}
 use Rattle.mpb_spec.specs.Plan.{Plan}
-use Rattle.mpb_bus.specs.declared.held.Held.{Held}
+use Rattle.mpb_board.specs.BoardView.{BoardView}
 use Rattle.mpb_bus.specs.declared.view.AgentView.{AgentView}
 use Rattle.mpb_bus.specs.declared.view.SeatView.{SeatView}
-use Rattle.mpb_bus.specs.Agents.{agents_of}
-use Rattle.mpb_bus.specs.Rule.{Slot, holding, nobody, over_agents, one_if, AgentFits, IsEven, IsOdd, IsKept}
-use Rattle.mpb_bus.proofs.Lists.{sum_set, sum_at, sum_none, count_all, any_above}
+use Rattle.mpb_spec.specs.Agents.{agents_of}
+use Rattle.mpb_bus.specs.Rule.{Slot, holding, nobody, over_agents, AgentFits, IsEven, IsOdd, IsKept}
+use Rattle.mpb_spec.specs.Lists.{one_if}
+use Rattle.mpb_spec.proofs.Lists.{sum_set, sum_at, sum_none, count_all, any_above}
 use Rattle.mpb_bus.proofs.Journals.{prefix_whole}
 
 -- the board is at home, and what is known of the agents fits its journal
 pub record Settled (c : Plan) (s : State Slot SeatView) (agents : List AgentView) : Type 0 where
-  pub held : Held
-  pub home : get_elem? s.homes 0 ≡ some (some (Some held))
-  pub plan : held.board.plan ≡ c
-  pub fits : All (AgentFits c held.board.journal held.out_of_memory) agents
-  pub latest : Any (λ a. a.seen ≡ held.board.journal) agents
+  pub board : BoardView
+  pub home : get_elem? s.homes 0 ≡ some (some (Some board))
+  pub plan : board.plan ≡ c
+  pub fits : All (AgentFits c board.journal) agents
+  pub latest : Any (λ a. a.seen ≡ board.journal) agents
 
 none_else : (f : AgentView → ℕ) (views : List SeatView) → over_agents (λ _. 1) views ≡ 0 → over_agents f views ≡ 0
 none_else f [] e = refl
@@ -59,7 +59,7 @@ module _ (c : Plan) (s : State Slot SeatView) (ok : IsKept c s) (id : ℕ) (v : 
       let z = none_else f (set s.views id nobody) others in
       omega arith
 
-  not_odd : ¬ IsOdd ok.journal ok.mark s
+  not_odd : ¬ IsOdd ok.journal s
   not_odd o = dite (ℕ_discrete o.holder id)
       (λ same. true≢false (ap (λ (u : SeatView). u.holds) (some-injective (holding o.agent) v (sym o.held_by ∙ ap (λ j. get_elem? s.views j) same ∙ at)) ∙ free))
       (λ ne.
@@ -70,26 +70,26 @@ module _ (c : Plan) (s : State Slot SeatView) (ok : IsKept c s) (id : ℕ) (v : 
   latest : Any (λ a. a.seen ≡ ok.journal) v.agents
   latest =
       let any = any_above (λ (a : AgentView). one_if (eqb (length a.seen) (length ok.journal))) v.agents (subst (λ k. 0 < k) (only (λ a. one_if (eqb (length a.seen) (length ok.journal)))) ok.latest) in
-      let fits = subst (AgentFits c ok.journal ok.mark) any.3 ((ok.fits id v at).0 any.0 any.1 any.2) in
+      let fits = subst (AgentFits c ok.journal) any.3 ((ok.fits id v at).0 any.0 any.1 any.2) in
       let long = as_long (length any.1.seen) (length ok.journal) any.4 in
       (any.0, any.1, any.2, any.3, prefix_whole any.1.seen ok.journal fits.seen (omega arith))
 
   pub settles : Settled c s v.agents
   settles = ⊎_elim
-      (λ (e : IsEven c ok.journal ok.mark s). record {
-        held = e.held;
+      (λ (e : IsEven c ok.journal s). record {
+        board = e.board;
         home = e.home;
         plan = e.plan_is;
-        fits = subst (λ (x : List Entry × Bool). All (AgentFits c x.0 x.1) v.agents) (λ i. (sym e.journal_is i, sym e.mark_is i)) (ok.fits id v at).0;
+        fits = subst (λ l. All (AgentFits c l) v.agents) (sym e.journal_is) (ok.fits id v at).0;
         latest = subst (λ l. Any (λ a. a.seen ≡ l) v.agents) (sym e.journal_is) latest;
       })
-      (λ (o : IsOdd ok.journal ok.mark s). absurd (not_odd o))
+      (λ (o : IsOdd ok.journal s). absurd (not_odd o))
       ok.phase
 
 -- what lies in a slot is one thing
-pub held_same : (h k : Held) → Some h ≡ Some k → h ≡ k
-held_same h k e = ap (held_or h) e
+pub board_same : (b d : BoardView) → Some b ≡ Some d → b ≡ d
+board_same b d e = ap (board_or b) e
   where
-    held_or : Held → Slot → Held
-    held_or d (Some x) = x
-    held_or d None = d
+    board_or : BoardView → Slot → BoardView
+    board_or d (Some x) = x
+    board_or d None = d

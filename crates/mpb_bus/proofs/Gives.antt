@@ -9,12 +9,13 @@ use Rattle.atomic_table.specs.Table.{State, step, stepped, Allows, gives}
 use Rattle.atomic_table.proofs.Lists.{at_set, set_else, set_here}
 use Rattle.mpb_spec.specs.declared.entry.Entry.{Entry}
 use Rattle.mpb_spec.specs.Plan.{Plan}
-use Rattle.mpb_bus.specs.declared.held.Held.{Held}
+use Rattle.mpb_board.specs.BoardView.{BoardView}
 use Rattle.mpb_bus.specs.declared.view.AgentView.{AgentView}
 use Rattle.mpb_bus.specs.declared.view.SeatView.{SeatView}
-use Rattle.mpb_bus.specs.Agents.{is_agent, entries_of, IsPrefix}
-use Rattle.mpb_bus.specs.Rule.{Slot, resting, holding, nobody, given, agent_of, over_agents, one_if, AgentFits, ViewFits, IsEven, IsOdd, IsKept, Gives, GrowsBy}
-use Rattle.mpb_bus.proofs.Lists.{sum_set, sum_at, set_at}
+use Rattle.mpb_spec.specs.Agents.{is_agent, entries_of, IsPrefix}
+use Rattle.mpb_bus.specs.Rule.{Slot, resting, holding, nobody, given, agent_of, over_agents, AgentFits, ViewFits, IsEven, IsOdd, IsKept, Gives, GrowsBy}
+use Rattle.mpb_spec.specs.Lists.{one_if}
+use Rattle.mpb_spec.proofs.Lists.{sum_set, sum_at, set_at}
 use Rattle.mpb_bus.proofs.Journals.{prefix_refl, prefix_push, prefix_trans, drop_all, drop_push, is_agent-itself, own_entry, other_entry}
 use Rattle.mpb_bus.proofs.Takes.{known_of}
 
@@ -31,15 +32,12 @@ mine_given a journal before seen mine grows = ⊎_elim
     ∙ sym (ap (entries_of a.agent) e.1 ∙ own_entry a.agent a.seen e.0 e.2))
     grows
 
-module _ (c : Plan) (s : State Slot SeatView) (ok : IsKept c s) (id : ℕ) (a : AgentView) (at : get_elem? s.views id ≡ some (holding a)) (o : IsOdd ok.journal ok.mark s)
-    (h : Held) (plan : h.board.plan ≡ a.config) (grows : GrowsBy a h.board.journal) (wanted : a.wanted ≡ true → h.out_of_memory ≡ true) (new : ℕ) (new_is : new ≡ 2 * length h.board.journal) where
+module _ (c : Plan) (s : State Slot SeatView) (ok : IsKept c s) (id : ℕ) (a : AgentView) (at : get_elem? s.views id ≡ some (holding a)) (o : IsOdd ok.journal s)
+    (b : BoardView) (plan : b.plan ≡ a.config) (grows : GrowsBy a b.journal) (new : ℕ) (new_is : new ≡ 2 * length b.journal) where
   abbrev journal' : List Entry
-  journal' = h.board.journal
+  journal' = b.journal
 
-  abbrev mark' : Bool
-  mark' = h.out_of_memory
-
-  mine : AgentFits c ok.journal ok.mark a
+  mine : AgentFits c ok.journal a
   mine = known_of c s ok id a (holding a) refl at
 
   holder_is : id ≡ o.holder
@@ -50,9 +48,6 @@ module _ (c : Plan) (s : State Slot SeatView) (ok : IsKept c s) (id : ℕ) (a : 
 
   seen_all : a.seen ≡ ok.journal
   seen_all = ap (λ (b : AgentView). b.seen) same ∙ o.seen
-
-  known : ok.mark ≡ true → mark' ≡ true
-  known m = wanted (ap (λ (b : AgentView). b.wanted) same ∙ o.mark_is ∙ m)
 
   longer : IsPrefix ok.journal journal'
   longer = ⊎_elim
@@ -86,25 +81,24 @@ module _ (c : Plan) (s : State Slot SeatView) (ok : IsKept c s) (id : ℕ) (a : 
   olds_then : (olds : List (List Entry)) → All (λ xs. IsPrefix xs ok.journal) olds → All (λ xs. IsPrefix xs journal') olds
   olds_then olds all k d l = prefix_trans (get_or olds k d) ok.journal journal' (all k d l) longer
 
-  others_fit : (j : ℕ) (u : SeatView) → j ≢ id → get_elem? s.views j ≡ some u → ViewFits c journal' mark' u
+  others_fit : (j : ℕ) (u : SeatView) → j ≢ id → get_elem? s.views j ≡ some u → ViewFits c journal' u
   others_fit j u ne there = (
-    (λ k d l. let f = (ok.fits j u there).0 k d l in record { config = f.config; seen = prefix_trans (get_or u.agents k d).seen ok.journal journal' f.seen longer; mine = f.mine ∙ others_same j u ne there k d l; olds = olds_then (get_or u.agents k d).olds f.olds; wanted = λ m. known (f.wanted m) }),
+    (λ k d l. let f = (ok.fits j u there).0 k d l in record { config = f.config; seen = prefix_trans (get_or u.agents k d).seen ok.journal journal' f.seen longer; mine = f.mine ∙ others_same j u ne there k d l; olds = olds_then (get_or u.agents k d).olds f.olds }),
     olds_then u.told (ok.fits j u there).1,
-    λ m. known ((ok.fits j u there).2 m),
   )
 
   abbrev w : SeatView
-  w = resting (given journal' mark' a)
+  w = resting (given journal' a)
 
   abbrev after : State Slot SeatView
-  after = stepped s 0 new id ((0, Some h) ∷ []) w gives
+  after = stepped s 0 new id ((0, Some b) ∷ []) w gives
 
-  fits_given : AgentFits c journal' mark' (given journal' mark' a)
-  fits_given = record { config = mine.config; seen = prefix_refl journal'; mine = mine_given a journal' ok.journal seen_all mine.mine grows; olds = olds_then a.olds mine.olds; wanted = λ m. m }
+  fits_given : AgentFits c journal' (given journal' a)
+  fits_given = record { config = mine.config; seen = prefix_refl journal'; mine = mine_given a journal' ok.journal seen_all mine.mine grows; olds = olds_then a.olds mine.olds }
 
-  fits_all : (j : ℕ) (u : SeatView) → get_elem? after.views j ≡ some u → ViewFits c journal' mark' u
+  fits_all : (j : ℕ) (u : SeatView) → get_elem? after.views j ≡ some u → ViewFits c journal' u
   fits_all j u there = ⊎_elim
-      (λ (t : (j ≡ id) × (w ≡ u)). subst (ViewFits c journal' mark') t.1 (All-cons (AgentFits c journal' mark') (given journal' mark' a) [] fits_given (All-nil (AgentFits c journal' mark')), All-nil (λ xs. IsPrefix xs journal'), λ f. absurd (true≢false (sym f))))
+      (λ (t : (j ≡ id) × (w ≡ u)). subst (ViewFits c journal') t.1 (All-cons (AgentFits c journal') (given journal' a) [] fits_given (All-nil (AgentFits c journal')), All-nil (λ xs. IsPrefix xs journal')))
       (λ (t : (j ≢ id) × (get_elem? s.views j ≡ some u)). others_fit j u t.0 t.1)
       (at_set s.views id j w u there)
 
@@ -118,29 +112,27 @@ module _ (c : Plan) (s : State Slot SeatView) (ok : IsKept c s) (id : ℕ) (a : 
       by_mark false e t = e
       by_mark true e t = absurd (t.0 (o.alone j u t.1 e ∙ sym holder_is))
 
-  sums : (f : AgentView → ℕ) → over_agents f after.views + f a ≡ over_agents f s.views + f (given journal' mark' a)
-  sums f = (let t = sum_set (λ (v : SeatView). sum_by f v.agents) s.views id (holding a) w at in omega (arith, sum_by-cons f a [], sum_by-cons f (given journal' mark' a) []))
+  sums : (f : AgentView → ℕ) → over_agents f after.views + f a ≡ over_agents f s.views + f (given journal' a)
+  sums f = (let t = sum_set (λ (v : SeatView). sum_by f v.agents) s.views id (holding a) w at in omega (arith, sum_by-cons f a [], sum_by-cons f (given journal' a) []))
 
   latest : 0 < over_agents (λ b. one_if (eqb (length b.seen) (length journal'))) after.views
   latest =
       let f = λ (b : AgentView). one_if (eqb (length b.seen) (length journal')) in
       let le = sum_at (λ (v : SeatView). sum_by f v.agents) after.views id w (set_at s.views id (holding a) w at) in
-      let one : f (given journal' mark' a) ≡ 1 = ap one_if (eq-eqb (length journal') (length journal') refl) in
-      omega (arith, sum_by-cons f (given journal' mark' a) [])
+      let one : f (given journal' a) ≡ 1 = ap one_if (eq-eqb (length journal') (length journal') refl) in
+      omega (arith, sum_by-cons f (given journal' a) [])
 
   pub gave : IsKept c after
   gave = record {
     journal = journal';
-    mark = mark';
     wide = length-set s.words 0 new ∙ ok.wide;
-    slots = length-set s.homes 0 (some (Some h)) ∙ ok.slots;
+    slots = length-set s.homes 0 (some (Some b)) ∙ ok.slots;
     phase = inl record {
       word = get_or-set_same s.words 0 new 0 (let l = ok.wide in omega arith) ∙ new_is;
-      held = h;
-      home = set_here s.homes 0 (some (Some h)) (let l = ok.slots in omega arith);
+      board = b;
+      home = set_here s.homes 0 (some (Some b)) (let l = ok.slots in omega arith);
       plan_is = plan ∙ mine.config;
       journal_is = refl;
-      mark_is = refl;
       free = free;
     };
     agents = λ f. (let t = sums (λ (b : AgentView). f b.agent) in let r = ok.agents f in omega arith);
@@ -149,9 +141,9 @@ module _ (c : Plan) (s : State Slot SeatView) (ok : IsKept c s) (id : ℕ) (a : 
     latest = latest;
   }
 
-pub gives_allowed : (c : Plan) (slots id : ℕ) (a : AgentView) (h : Held) (new : ℕ) → h.board.plan ≡ a.config → GrowsBy a h.board.journal → (a.wanted ≡ true → h.out_of_memory ≡ true) → new ≡ 2 * length h.board.journal
-    → Allows (IsKept c) slots id (holding a, (0, Some h) ∷ []) 0 (λ _. new) (λ _. Gives (step slots 0 new 0 none) (holding a, (0, Some h) ∷ []) new)
-gives_allowed c slots id a h new plan grows wanted new_is s ok homes at word = ⊎_elim
-    (λ (e : IsEven c ok.journal ok.mark s). absurd (true≢false (e.free id (holding a) at)))
-    (λ (o : IsOdd ok.journal ok.mark s). (resting (given h.board.journal h.out_of_memory a), gives, tt, gave c s ok id a at o h plan grows wanted new new_is, refl))
+pub gives_allowed : (c : Plan) (slots id : ℕ) (a : AgentView) (b : BoardView) (new : ℕ) → b.plan ≡ a.config → GrowsBy a b.journal → new ≡ 2 * length b.journal
+    → Allows (IsKept c) slots id (holding a, (0, Some b) ∷ []) 0 (λ _. new) (λ _. Gives (step slots 0 new 0 none) (holding a, (0, Some b) ∷ []) new)
+gives_allowed c slots id a b new plan grows new_is s ok homes at word = ⊎_elim
+    (λ (e : IsEven c ok.journal s). absurd (true≢false (e.free id (holding a) at)))
+    (λ (o : IsOdd ok.journal s). (resting (given b.journal a), gives, tt, gave c s ok id a at o b plan grows new new_is, refl))
     ok.phase

@@ -4,7 +4,7 @@ use Rattle.std.proofs.lemmas.List.Elements.{filter-append}
 use Rattle.mpb_spec.specs.declared.agent.Agent.{Agent}
 use Rattle.mpb_spec.specs.declared.agent.Agent.TheVariants.{Cpu, Io, Dev}
 use Rattle.mpb_spec.specs.declared.entry.Entry.{Entry}
-use Rattle.mpb_bus.specs.Agents.{is_agent, entries_of, IsPrefix}
+use Rattle.mpb_spec.specs.Agents.{is_agent, entries_of, IsPrefix}
 
 pub prefix_refl : (xs : List Entry) → IsPrefix xs xs
 prefix_refl xs = ([], sym (append-nil xs))

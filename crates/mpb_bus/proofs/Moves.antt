@@ -1,5 +1,5 @@
 -- Views are cut in two and put together, and a seat enters: the rule stays.
-use Rattle.std.proofs.Common.{◌≡◌, ◌≢◌, ◌⊎◌, ℕ, ◌+◌, ◌<◌, Bool, true, false, true≢false, eqb, if◌then◌else◌, List, [], ◌∷◌, ◌++◌, length, set, sum_by, All, refl, sym, ap, ◌∙◌, subst, arith, ⊎_elim, inl, inr}
+use Rattle.std.proofs.Common.{◌≡◌, ◌≢◌, ◌⊎◌, ℕ, ◌+◌, ◌<◌, Bool, true, false, true≢false, eqb, List, [], ◌∷◌, ◌++◌, length, set, sum_by, All, refl, sym, ap, ◌∙◌, subst, arith, ⊎_elim, inl, inr}
 use mathlib.Core.Option.{some, some-injective}
 use lib.ListN.{get_elem?}
 use Rattle.std.proofs.lemmas.List.Elements.{All-cons, All-nil, All-append, All-head, All-tail}
@@ -11,9 +11,10 @@ use Rattle.mpb_spec.specs.declared.entry.Entry.{Entry}
 use Rattle.mpb_spec.specs.Plan.{Plan}
 use Rattle.mpb_bus.specs.declared.view.AgentView.{AgentView}
 use Rattle.mpb_bus.specs.declared.view.SeatView.{SeatView}
-use Rattle.mpb_bus.specs.Agents.{IsPrefix}
-use Rattle.mpb_bus.specs.Rule.{Slot, resting, nobody, agent_of, rest_of, first_of_list, without_agent, first_agent, together, telling, hearing, heard, over_agents, one_if, AgentFits, ViewFits, IsEven, IsOdd, IsKept}
-use Rattle.mpb_bus.proofs.Lists.{sum_set, each_set}
+use Rattle.mpb_spec.specs.Agents.{IsPrefix}
+use Rattle.mpb_bus.specs.Rule.{Slot, resting, nobody, agent_of, without_agent, first_agent, together, telling, hearing, heard, over_agents, AgentFits, ViewFits, IsEven, IsOdd, IsKept}
+use Rattle.mpb_spec.specs.Lists.{rest_of, first_of_list, one_if}
+use Rattle.mpb_spec.proofs.Lists.{sum_set, each_set}
 use Rattle.mpb_bus.proofs.Takes.{known_of}
 
 -- only views that don't hold the board have changed, and the agents and what they have seen are the same
@@ -21,7 +22,7 @@ module _ (c : Plan) (s : State Slot SeatView) (views : List SeatView) (ok : IsKe
     (sums : (f : Agent → List Entry → ℕ) → over_agents (λ a. f a.agent a.seen) views ≡ over_agents (λ a. f a.agent a.seen) s.views)
     (was : (j : ℕ) (u : SeatView) → get_elem? views j ≡ some u → u.holds ≡ true → get_elem? s.views j ≡ some u)
     (is : (j : ℕ) (u : SeatView) → get_elem? s.views j ≡ some u → u.holds ≡ true → get_elem? views j ≡ some u)
-    (fits : (j : ℕ) (u : SeatView) → get_elem? views j ≡ some u → ViewFits c ok.journal ok.mark u) where
+    (fits : (j : ℕ) (u : SeatView) → get_elem? views j ≡ some u → ViewFits c ok.journal u) where
   abbrev after : State Slot SeatView
   after = record { words = s.words; homes = s.homes; views = views }
 
@@ -32,16 +33,15 @@ module _ (c : Plan) (s : State Slot SeatView) (views : List SeatView) (ok : IsKe
       by_mark true e = absurd (un e)
       by_mark false e = e
 
-  phase : IsEven c ok.journal ok.mark s ⊎ IsOdd ok.journal ok.mark s → IsEven c ok.journal ok.mark after ⊎ IsOdd ok.journal ok.mark after
+  phase : IsEven c ok.journal s ⊎ IsOdd ok.journal s → IsEven c ok.journal after ⊎ IsOdd ok.journal after
   phase p = ⊎_elim
-      (λ (e : IsEven c ok.journal ok.mark s). inl record { word = e.word; held = e.held; home = e.home; plan_is = e.plan_is; journal_is = e.journal_is; mark_is = e.mark_is; free = λ j u h. not_held u (λ on. true≢false (sym on ∙ e.free j u (was j u h on))) })
-      (λ (o : IsOdd ok.journal ok.mark s). inr record { word = o.word; holder = o.holder; agent = o.agent; held_by = is o.holder (Rattle.mpb_bus.specs.Rule.holding o.agent) o.held_by refl; seen = o.seen; mark_is = o.mark_is; alone = λ j u h on. o.alone j u (was j u h on) on })
+      (λ (e : IsEven c ok.journal s). inl record { word = e.word; board = e.board; home = e.home; plan_is = e.plan_is; journal_is = e.journal_is; free = λ j u h. not_held u (λ on. true≢false (sym on ∙ e.free j u (was j u h on))) })
+      (λ (o : IsOdd ok.journal s). inr record { word = o.word; holder = o.holder; agent = o.agent; held_by = is o.holder (Rattle.mpb_bus.specs.Rule.holding o.agent) o.held_by refl; seen = o.seen; alone = λ j u h on. o.alone j u (was j u h on) on })
       p
 
   pub resorted : IsKept c after
   resorted = record {
     journal = ok.journal;
-    mark = ok.mark;
     wide = ok.wide;
     slots = ok.slots;
     phase = phase ok.phase;
@@ -68,12 +68,8 @@ module _ (views : List SeatView) (id : ℕ) (w : SeatView) (w_free : w.holds ≡
 each_push : (Q : SeatView → Type 0) (views : List SeatView) (w : SeatView) → ((j : ℕ) (u : SeatView) → get_elem? views j ≡ some u → Q u) → Q w → (j : ℕ) (u : SeatView) → get_elem? (views ++ w ∷ []) j ≡ some u → Q u
 each_push Q views w others mine j u h = ⊎_elim (λ t. others j u t) (λ (same : w ≡ u). subst Q same mine) (at_snoc views w u j h)
 
-none_fits : (c : Plan) (journal : List Entry) (mark : Bool) → ViewFits c journal mark nobody
-none_fits c journal mark = (All-nil (AgentFits c journal mark), All-nil (λ xs. IsPrefix xs journal), λ f. absurd (true≢false (sym f)))
-
-either_told : (a b : Bool) (M : Type 0) → (a ≡ true → M) → (b ≡ true → M) → (if a then true else b) ≡ true → M
-either_told true b M p q e = p refl
-either_told false b M p q e = q e
+none_fits : (c : Plan) (journal : List Entry) → ViewFits c journal nobody
+none_fits c journal = (All-nil (AgentFits c journal), All-nil (λ xs. IsPrefix xs journal))
 
 -- a new seat stands for nobody
 pub enters : (c : Plan) (s : State Slot SeatView) → IsKept c s → IsKept c record { words = s.words; homes = s.homes; views = s.views ++ nobody ∷ [] }
@@ -81,7 +77,7 @@ enters c s ok = resorted c s (s.views ++ nobody ∷ []) ok
     (λ f. (let a = sum_by_push (λ (v : SeatView). sum_by (λ (b : AgentView). f b.agent b.seen) v.agents) s.views nobody in omega arith))
     (push_was s.views 0 nobody refl)
     (push_is s.views 0 nobody refl)
-    (each_push (ViewFits c ok.journal ok.mark) s.views nobody ok.fits (none_fits c ok.journal ok.mark))
+    (each_push (ViewFits c ok.journal) s.views nobody ok.fits (none_fits c ok.journal))
 
 cut_sum : {A : Type 0} (f : A → ℕ) (xs : List A) → sum_by f (rest_of xs) + sum_by f (first_of_list xs) ≡ sum_by f xs
 cut_sum f [] = refl
@@ -106,9 +102,9 @@ cuts_agent c id v free s ok at =
     (let a = sum_by_push (λ (u : SeatView). sum_by g u.agents) first right in let b = sum_set (λ (u : SeatView). sum_by g u.agents) s.views id v left at in let t = cut_sum g v.agents in omega arith))
     (λ j u h on. set_was s.views id left refl j u (push_was first 0 right refl j u h on) on)
     (λ j u h on. push_is first 0 right refl j u (set_is s.views id left refl v at free j u h on) on)
-    (each_push (ViewFits c ok.journal ok.mark) first right
-    (each_set (ViewFits c ok.journal ok.mark) s.views id left ok.fits (All_rest (AgentFits c ok.journal ok.mark) v.agents (ok.fits id v at).0, (ok.fits id v at).1, (ok.fits id v at).2))
-    (All_first (AgentFits c ok.journal ok.mark) v.agents (ok.fits id v at).0, All-nil (λ xs. IsPrefix xs ok.journal), λ f. absurd (true≢false (sym f))))
+    (each_push (ViewFits c ok.journal) first right
+    (each_set (ViewFits c ok.journal) s.views id left ok.fits (All_rest (AgentFits c ok.journal) v.agents (ok.fits id v at).0, (ok.fits id v at).1))
+    (All_first (AgentFits c ok.journal) v.agents (ok.fits id v at).0, All-nil (λ xs. IsPrefix xs ok.journal)))
 
 -- a seat without an agent is cut off, and told what the agent has seen
 pub tells_seen : (c : Plan) (id : ℕ) (a : AgentView) → Splits (IsKept c) id (resting a) (resting a) (telling (resting a))
@@ -121,14 +117,14 @@ tells_seen c id a s ok at =
     (let x = sum_by_push (λ (u : SeatView). sum_by g u.agents) first told in let y = sum_set (λ (u : SeatView). sum_by g u.agents) s.views id (resting a) (resting a) at in omega arith))
     (λ j u h on. set_was s.views id (resting a) refl j u (push_was first 0 told refl j u h on) on)
     (λ j u h on. push_is first 0 told refl j u (set_is s.views id (resting a) refl (resting a) at refl j u h on) on)
-    (each_push (ViewFits c ok.journal ok.mark) first told
-    (each_set (ViewFits c ok.journal ok.mark) s.views id (resting a) ok.fits (ok.fits id (resting a) at))
-    (All-nil (AgentFits c ok.journal ok.mark), All-cons (λ xs. IsPrefix xs ok.journal) a.seen [] known.seen (All-nil (λ xs. IsPrefix xs ok.journal)), known.wanted))
+    (each_push (ViewFits c ok.journal) first told
+    (each_set (ViewFits c ok.journal) s.views id (resting a) ok.fits (ok.fits id (resting a) at))
+    (All-nil (AgentFits c ok.journal), All-cons (λ xs. IsPrefix xs ok.journal) a.seen [] known.seen (All-nil (λ xs. IsPrefix xs ok.journal))))
 
 -- two views that don't hold the board are put together
 module _ (c : Plan) (id other : ℕ) (v w both : SeatView) (free : v.holds ≡ false) (w_free : w.holds ≡ false) (both_free : both.holds ≡ false)
     (sums : (f : Agent → List Entry → ℕ) → sum_by (λ a. f a.agent a.seen) both.agents ≡ sum_by (λ a. f a.agent a.seen) v.agents + sum_by (λ a. f a.agent a.seen) w.agents)
-    (fits : (journal : List Entry) (mark : Bool) → ViewFits c journal mark v → ViewFits c journal mark w → ViewFits c journal mark both) where
+    (fits : (journal : List Entry) → ViewFits c journal v → ViewFits c journal w → ViewFits c journal both) where
   pub joined : Joins (IsKept c) id v other w both nobody
   joined s ok at apart there =
       let first = set s.views id both in
@@ -138,21 +134,21 @@ module _ (c : Plan) (id other : ℕ) (v w both : SeatView) (free : v.holds ≡ f
       (let x = sum_set (λ (u : SeatView). sum_by g u.agents) s.views id v both at in let y = sum_set (λ (u : SeatView). sum_by g u.agents) first other w nobody there in let z = sums f in omega arith))
       (λ j u h on. set_was s.views id both both_free j u (set_was first other nobody refl j u h on) on)
       (λ j u h on. set_is first other nobody refl w there w_free j u (set_is s.views id both both_free v at free j u h on) on)
-      (each_set (ViewFits c ok.journal ok.mark) first other nobody
-      (each_set (ViewFits c ok.journal ok.mark) s.views id both ok.fits (fits ok.journal ok.mark (ok.fits id v at) (ok.fits other w their)))
-      (none_fits c ok.journal ok.mark))
+      (each_set (ViewFits c ok.journal) first other nobody
+      (each_set (ViewFits c ok.journal) s.views id both ok.fits (fits ok.journal (ok.fits id v at) (ok.fits other w their)))
+      (none_fits c ok.journal))
 
 -- all agents of both
 pub joins_views : (c : Plan) (id other : ℕ) (v w : SeatView) → v.holds ≡ false → w.holds ≡ false → Joins (IsKept c) id v other w (together v w) nobody
 joins_views c id other v w free w_free = joined c id other v w (together v w) free w_free refl
     (λ f. sum_by-append (λ (a : AgentView). f a.agent a.seen) v.agents w.agents)
-    (λ journal mark p q. (All-append (AgentFits c journal mark) v.agents w.agents p.0 q.0, All-append (λ xs. IsPrefix xs journal) v.told w.told p.1 q.1, either_told v.warned w.warned (mark ≡ true) p.2 q.2))
+    (λ journal p q. (All-append (AgentFits c journal) v.agents w.agents p.0 q.0, All-append (λ xs. IsPrefix xs journal) v.told w.told p.1 q.1))
 
-hearing_fits : (c : Plan) (a : AgentView) (told : List (List Entry)) (warned : Bool) (journal : List Entry) (mark : Bool) → AgentFits c journal mark a → All (λ xs. IsPrefix xs journal) told → (warned ≡ true → mark ≡ true) → AgentFits c journal mark (hearing told warned a)
-hearing_fits c a told warned journal mark f t m = record { config = f.config; seen = f.seen; mine = f.mine; olds = All-append (λ xs. IsPrefix xs journal) told (a.seen ∷ []) t (All-cons (λ xs. IsPrefix xs journal) a.seen [] f.seen (All-nil (λ xs. IsPrefix xs journal))); wanted = either_told warned a.wanted (mark ≡ true) m f.wanted }
+hearing_fits : (c : Plan) (a : AgentView) (told : List (List Entry)) (journal : List Entry) → AgentFits c journal a → All (λ xs. IsPrefix xs journal) told → AgentFits c journal (hearing told a)
+hearing_fits c a told journal f t = record { config = f.config; seen = f.seen; mine = f.mine; olds = All-append (λ xs. IsPrefix xs journal) told (a.seen ∷ []) t (All-cons (λ xs. IsPrefix xs journal) a.seen [] f.seen (All-nil (λ xs. IsPrefix xs journal))) }
 
 -- an agent hears what a seat without an agent was told
-pub hears : (c : Plan) (id other : ℕ) (a : AgentView) (told : List (List Entry)) (warned : Bool) → Joins (IsKept c) id (resting a) other (record { agents = []; told = told; warned = warned; holds = false }) (heard (resting a) (record { agents = []; told = told; warned = warned; holds = false })) nobody
-hears c id other a told warned = joined c id other (resting a) (record { agents = []; told = told; warned = warned; holds = false }) (resting (hearing told warned a)) refl refl refl
-    (λ f. (omega (arith, sum_by-cons (λ (b : AgentView). f b.agent b.seen) (hearing told warned a) [], sum_by-cons (λ (b : AgentView). f b.agent b.seen) a [])))
-    (λ journal mark p q. (All-cons (AgentFits c journal mark) (hearing told warned a) [] (hearing_fits c a told warned journal mark (p.0 0 a (omega arith)) q.1 q.2) (All-nil (AgentFits c journal mark)), All-nil (λ xs. IsPrefix xs journal), λ f. absurd (true≢false (sym f))))
+pub hears : (c : Plan) (id other : ℕ) (a : AgentView) (told : List (List Entry)) → Joins (IsKept c) id (resting a) other (record { agents = []; told = told; holds = false }) (heard (resting a) (record { agents = []; told = told; holds = false })) nobody
+hears c id other a told = joined c id other (resting a) (record { agents = []; told = told; holds = false }) (resting (hearing told a)) refl refl refl
+    (λ f. (omega (arith, sum_by-cons (λ (b : AgentView). f b.agent b.seen) (hearing told a) [], sum_by-cons (λ (b : AgentView). f b.agent b.seen) a [])))
+    (λ journal p q. (All-cons (AgentFits c journal) (hearing told a) [] (hearing_fits c a told journal (p.0 0 a (omega arith)) q.1) (All-nil (AgentFits c journal)), All-nil (λ xs. IsPrefix xs journal)))

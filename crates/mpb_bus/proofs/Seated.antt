@@ -19,8 +19,8 @@ use Rattle.mpb_spec.specs.Plan.{Plan, CpuPlan}
 use Rattle.mpb_spec.specs.Journal.{final_state_of}
 use Rattle.mpb_spec.specs.May.{MayAny}
 use Rattle.mpb_laws.proofs.PartsStay.{ids_stay, places_stay, devices_stay}
-use Rattle.mpb_bus.specs.Agents.{agents_of}
-use Rattle.mpb_bus.proofs.Lists.{map_map}
+use Rattle.mpb_spec.specs.Agents.{agents_of}
+use Rattle.mpb_spec.proofs.Lists.{map_map}
 
 none-some : (o : Op) → None ≡ Some o → ⊥
 none-some o e = cc

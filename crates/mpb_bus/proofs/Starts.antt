@@ -1,5 +1,5 @@
 -- The beginning: each agent of a board is there once, and none has taken the turn.
-use Rattle.std.proofs.Common.{◌≡◌, ℕ, zero, suc, ◌+◌, ◌*◌, ◌<◌, ◌≤◌, Bool, true, false, true≢false, eqb, eq-eqb, List, [], ◌∷◌, ◌++◌, length, get_or, map, drop, sum_by, All, Some, refl, sym, ap, ◌∙◌, subst, arith, inl}
+use Rattle.std.proofs.Common.{◌≡◌, ℕ, zero, suc, ◌+◌, ◌*◌, ◌<◌, ◌≤◌, Bool, true, false, eqb, eq-eqb, List, [], ◌∷◌, ◌++◌, length, get_or, map, drop, sum_by, All, Some, refl, sym, ap, ◌∙◌, subst, arith, inl}
 use mathlib.Core.Option.{some, some-injective, some-ne-none}
 use lib.ListN.{get_elem?}
 use Rattle.std.specs.List.{AllByRecursion, range_with_len}
@@ -14,13 +14,14 @@ use Rattle.mpb_spec.specs.declared.entry.Entry.{Entry}
 use Rattle.mpb_spec.specs.Numbers.{IsAscending}
 use Rattle.mpb_spec.specs.Plan.{Plan, CpuPlan}
 use Rattle.mpb_spec.specs.Configs.{IsConfig}
-use Rattle.mpb_bus.specs.declared.held.Held.{Held}
+use Rattle.mpb_board.specs.BoardView.{BoardView}
 use Rattle.mpb_bus.specs.declared.view.AgentView.{AgentView}
 use Rattle.mpb_bus.specs.declared.view.SeatView.{SeatView}
-use Rattle.mpb_bus.specs.Agents.{agents_of, is_agent, IsPrefix}
+use Rattle.mpb_spec.specs.Agents.{agents_of, is_agent, IsPrefix}
 use Rattle.mpb_bus.specs.Seats.{SharedBus, AgentSeat, AreSeatsOf, fresh_seat}
-use Rattle.mpb_bus.specs.Rule.{opening_view, fresh_agent, rest_of, one_if, times, AgentFits, ViewFits, IsKept, over_agents}
-use Rattle.mpb_bus.proofs.Lists.{count_all, map_map, sum_map}
+use Rattle.mpb_bus.specs.Rule.{opening_view, fresh_agent, times, AgentFits, ViewFits, IsKept, over_agents}
+use Rattle.mpb_spec.specs.Lists.{rest_of, one_if}
+use Rattle.mpb_spec.proofs.Lists.{count_all, map_map, sum_map}
 use Rattle.mpb_bus.proofs.Journals.{prefix_refl}
 
 -- a sum of zeros
@@ -106,67 +107,38 @@ module _ (c : Plan) where
       omega arith
 
   -- the rule holds at the beginning
-  pub opens : (held : Held) → held.board.plan ≡ c → IsConfig c → IsKept c (opening ((2 * length held.board.journal) ∷ []) (Some held ∷ []) (opening_view c held.board.journal))
-  opens held plan is = record {
+  pub opens : (b : BoardView) → b.plan ≡ c → IsConfig c → IsKept c (opening ((2 * length b.journal) ∷ []) (Some b ∷ []) (opening_view c b.journal))
+  opens b plan is = record {
     journal = journal;
-    mark = held.out_of_memory;
     wide = refl;
     slots = refl;
-    phase = inl record { word = refl; held = held; home = refl; plan_is = plan; journal_is = refl; mark_is = refl; free = λ j u h. one_view j u h (λ (x : SeatView). x.holds ≡ false) refl };
+    phase = inl record { word = refl; board = b; home = refl; plan_is = plan; journal_is = refl; free = λ j u h. one_view j u h (λ (x : SeatView). x.holds ≡ false) refl };
     agents = λ f. (let s = sum_map (λ (a : AgentView). f a.agent) fresh (agents_of c) in omega arith);
     once = agents_once is.ascending;
-    fits = λ j u h. one_view j u h (ViewFits c journal held.out_of_memory) (All-map (AgentFits c journal held.out_of_memory) fresh (agents_of c) (λ k d l. fresh_fits (get_or (agents_of c) k d)), All-nil (λ xs. IsPrefix xs journal), λ f. absurd (true≢false (sym f)));
+    fits = λ j u h. one_view j u h (ViewFits c journal) (All-map (AgentFits c journal) fresh (agents_of c) (λ k d l. fresh_fits (get_or (agents_of c) k d)), All-nil (λ xs. IsPrefix xs journal));
     latest = latest;
   }
     where
       journal : List Entry
-      journal = held.board.journal
+      journal = b.journal
 
       fresh : Agent → AgentView
-      fresh = fresh_agent c held.board.journal
+      fresh = fresh_agent c b.journal
 
-      one_view : (j : ℕ) (u : SeatView) → get_elem? (opening_view c held.board.journal ∷ []) j ≡ some u → (P : SeatView → Type 0) → P (opening_view c held.board.journal) → P u
-      one_view zero u h P p = subst P (some-injective (opening_view c held.board.journal) u h) p
+      one_view : (j : ℕ) (u : SeatView) → get_elem? (opening_view c b.journal ∷ []) j ≡ some u → (P : SeatView → Type 0) → P (opening_view c b.journal) → P u
+      one_view zero u h P p = subst P (some-injective (opening_view c b.journal) u h) p
       one_view (suc j) u h P p = absurd (some-ne-none u (sym h))
 
-      fresh_fits : (g : Agent) → AgentFits c held.board.journal held.out_of_memory (fresh_agent c held.board.journal g)
-      fresh_fits g = record { config = refl; seen = prefix_refl held.board.journal; mine = refl; olds = All-nil (λ xs. IsPrefix xs held.board.journal); wanted = λ f. absurd (true≢false (sym f)) }
+      fresh_fits : (g : Agent) → AgentFits c b.journal (fresh_agent c b.journal g)
+      fresh_fits g = record { config = refl; seen = prefix_refl b.journal; mine = refl; olds = All-nil (λ xs. IsPrefix xs b.journal) }
 
-      latest : 0 < over_agents (λ a. one_if (eqb (length a.seen) (length held.board.journal))) (opening_view c held.board.journal ∷ [])
+      latest : 0 < over_agents (λ a. one_if (eqb (length a.seen) (length b.journal))) (opening_view c b.journal ∷ [])
       latest =
-          let s = sum_map (λ (a : AgentView). one_if (eqb (length a.seen) (length held.board.journal))) (fresh_agent c held.board.journal) (agents_of c) in
-          let one = ap one_if (eq-eqb (length held.board.journal) (length held.board.journal) refl) in
+          let s = sum_map (λ (a : AgentView). one_if (eqb (length a.seen) (length b.journal))) (fresh_agent c b.journal) (agents_of c) in
+          let one = ap one_if (eq-eqb (length b.journal) (length b.journal) refl) in
           let ones = ap (λ k. sum_by (λ (_ : Agent). k) (agents_of c)) one ∙ count_all (agents_of c) in
           let some = some_agent is.some in
           omega arith
-
-range_more : (a n : ℕ) → range_with_len a (suc n) ≡ range_with_len a n ++ (a + n) ∷ []
-range_more a zero = ap (λ k. k ∷ []) (omega arith)
-range_more a (suc n) = ap (λ l. a ∷ l) (range_more (a + 1) n ∙ ap (λ k. range_with_len (a + 1) n ++ k ∷ []) (omega arith))
-
-map_append : {A B : Type 0} (f : A → B) (xs ys : List A) → map f (xs ++ ys) ≡ map f xs ++ map f ys
-map_append f [] ys = refl
-map_append f (x ∷ xs) ys = ap (λ l. f x ∷ l) (map_append f xs ys)
-
--- one numbered agent more
-pub numbered_more : (make : ℕ → Agent) (n : ℕ) → map make (range_with_len 0 (n + 1)) ≡ map make (range_with_len 0 n) ++ make n ∷ []
-numbered_more make n =
-    let next : n + 1 ≡ suc n = omega arith in
-    let same : 0 + n ≡ n = omega arith in
-    ap (λ k. map make (range_with_len 0 k)) next
-    ∙ ap (λ l. map make l) (range_more 0 n)
-    ∙ map_append make (range_with_len 0 n) ((0 + n) ∷ [])
-    ∙ ap (λ k. map make (range_with_len 0 n) ++ make k ∷ []) same
-
--- the agents that are left when some have been cut off
-pub first_of_rest : {A B : Type 0} (f : A → B) (xs : List A) (i : ℕ) (x : A) (d : B) → i < length xs → x ≡ get_or xs i x → get_or (drop i (map f xs)) 0 d ≡ f x
-first_of_rest f xs i x d l is = get_or-drop i (map f xs) 0 d ∙ ap (λ j. get_or (map f xs) j d) (omega arith) ∙ get_or-map f xs i x d l ∙ ap f (sym is)
-
-pub rest_of_rest : {A : Type 0} (xs : List A) (i : ℕ) (d : A) → i < length xs → rest_of (drop i xs) ≡ drop (i + 1) xs
-rest_of_rest xs i d l = ap (λ ys. rest_of ys) (drop_more xs i d l)
-
-pub some_of_rest : {A B : Type 0} (f : A → B) (xs : List A) (i : ℕ) → i < length xs → 0 < length (drop i (map f xs))
-some_of_rest f xs i l = (let n = length-map xs f in let d = length-drop i (map f xs) in omega arith)
 
 map_itself : {A : Type 0} (f : A → A) (xs : List A) → ((x : A) → f x ≡ x) → map f xs ≡ xs
 map_itself f [] same = refl

@@ -1,4 +1,3 @@
-pub mod Agents
 pub mod Seats
 pub mod Turns
 pub mod Rule

@@ -18,32 +18,33 @@ use Rattle.atomic_table.specs.Table.{State, Me, Step}
 use Rattle.mpb_spec.specs.declared.agent.Agent.{Agent}
 use Rattle.mpb_spec.specs.declared.agent.Agent.TheVariants.{Cpu}
 use Rattle.mpb_spec.specs.declared.entry.Entry.{Entry}
+use Rattle.mpb_spec.specs.Lists.{one_if, rest_of, first_of_list}
 use Rattle.mpb_spec.specs.Plan.{Plan}
-use Rattle.mpb_bus.specs.declared.held.Held.{Held}
+use Rattle.mpb_board.specs.BoardView.{BoardView}
 use Rattle.mpb_bus.specs.declared.view.AgentView.{AgentView}
 use Rattle.mpb_bus.specs.declared.view.SeatView.{SeatView}
-use Rattle.mpb_bus.specs.Agents.{agents_of, is_agent, entries_of, IsPrefix}
+use Rattle.mpb_spec.specs.Agents.{agents_of, is_agent, entries_of, IsPrefix}
 use Rattle.mpb_bus.specs.Seats.{AgentSeat}
 
 -- what lies in the slot: nothing while a seat has taken the board out
 abbrev pub Slot : Type 0
-Slot = Option Held
+Slot = Option BoardView
 
 -- what stands where a list has no such place
 abbrev pub no_agent : AgentView
-no_agent = record { agent = Cpu 0; config = record { boot = 0; boot_len = 0; cpus = []; ios = []; imcr = false; devices = [] }; seen = []; mine = []; turns = 0; olds = []; wanted = false }
+no_agent = record { agent = Cpu 0; config = record { boot = 0; boot_len = 0; cpus = []; ios = []; imcr = false; devices = [] }; seen = []; mine = []; turns = 0; olds = [] }
 
 -- the view of one agent that doesn't hold the board
 abbrev pub resting : AgentView → SeatView
-resting a = record { agents = a ∷ []; told = []; warned = false; holds = false }
+resting a = record { agents = a ∷ []; told = []; holds = false }
 
 -- the view of one that does
 abbrev pub holding : AgentView → SeatView
-holding a = record { agents = a ∷ []; told = []; warned = false; holds = true }
+holding a = record { agents = a ∷ []; told = []; holds = true }
 
 -- the view of no agent
 abbrev pub nobody : SeatView
-nobody = record { agents = []; told = []; warned = false; holds = false }
+nobody = record { agents = []; told = []; holds = false }
 
 -- the first agent of a view
 abbrev pub agent_of : SeatView → AgentView
@@ -51,65 +52,51 @@ agent_of v = slice_index_or v.agents 0 no_agent
 
 -- what the seat shows of it
 abbrev pub shown_agent : TableId → AgentView → AgentSeat
-shown_agent bus a = record { bus = bus; agent = a.agent; plan = a.config; seen = a.seen; mine = a.mine; turns = a.turns; olds = a.olds; wanted = a.wanted }
+shown_agent bus a = record { bus = bus; agent = a.agent; plan = a.config; seen = a.seen; mine = a.mine; turns = a.turns; olds = a.olds }
 
 -- what is known of it by what the seat shows
 abbrev pub known_agent : AgentSeat → AgentView
-known_agent s = record { agent = s.agent; config = s.plan; seen = s.seen; mine = s.mine; turns = s.turns; olds = s.olds; wanted = s.wanted }
+known_agent s = record { agent = s.agent; config = s.plan; seen = s.seen; mine = s.mine; turns = s.turns; olds = s.olds }
 
 -- an agent that has seen the journal and hasn't taken the turn yet
 abbrev pub fresh_agent : Plan → List Entry → Agent → AgentView
-fresh_agent c journal g = record { agent = g; config = c; seen = journal; mine = entries_of g journal; turns = 0; olds = []; wanted = false }
+fresh_agent c journal g = record { agent = g; config = c; seen = journal; mine = entries_of g journal; turns = 0; olds = [] }
 
 -- the first view, of all agents
 abbrev pub opening_view : Plan → List Entry → SeatView
-opening_view c journal = record { agents = map (fresh_agent c journal) (agents_of c); told = []; warned = false; holds = false }
+opening_view c journal = record { agents = map (fresh_agent c journal) (agents_of c); told = []; holds = false }
 
--- an agent that has won the turn sees the journal, and whether a step has wanted memory
-abbrev pub taken : List Entry → Bool → AgentView → AgentView
-taken journal mark a = record { agent = a.agent; config = a.config; seen = journal; mine = a.mine; turns = a.turns + 1; olds = a.olds; wanted = mark }
+-- an agent that has won the turn sees the journal
+abbrev pub taken : List Entry → AgentView → AgentView
+taken journal a = record { agent = a.agent; config = a.config; seen = journal; mine = a.mine; turns = a.turns + 1; olds = a.olds }
 
 -- one that gives it back sees what was added
-abbrev pub given : List Entry → Bool → AgentView → AgentView
-given journal mark a = record { agent = a.agent; config = a.config; seen = journal; mine = a.mine ++ drop (length a.seen) journal; turns = a.turns; olds = a.olds; wanted = mark }
-
--- a list without its first member
-abbrev pub rest_of : {A : Type 0} → List A → List A
-rest_of [] = []
-rest_of (x ∷ xs) = xs
-
--- its first member alone
-abbrev pub first_of_list : {A : Type 0} → List A → List A
-first_of_list [] = []
-first_of_list (x ∷ xs) = x ∷ []
+abbrev pub given : List Entry → AgentView → AgentView
+given journal a = record { agent = a.agent; config = a.config; seen = journal; mine = a.mine ++ drop (length a.seen) journal; turns = a.turns; olds = a.olds }
 
 -- a view that is cut behind its first agent: what is left
 abbrev pub without_agent : SeatView → SeatView
-without_agent v = record { agents = rest_of v.agents; told = v.told; warned = v.warned; holds = false }
+without_agent v = record { agents = rest_of v.agents; told = v.told; holds = false }
 
 -- and what is cut off
 abbrev pub first_agent : SeatView → SeatView
-first_agent v = record { agents = first_of_list v.agents; told = []; warned = false; holds = false }
+first_agent v = record { agents = first_of_list v.agents; told = []; holds = false }
 
 -- two views put together
 abbrev pub together : SeatView → SeatView → SeatView
-together v w = record { agents = v.agents ++ w.agents; told = v.told ++ w.told; warned = if v.warned then true else w.warned; holds = false }
+together v w = record { agents = v.agents ++ w.agents; told = v.told ++ w.told; holds = false }
 
--- a view without an agent, which tells what the first agent has seen, and whether it knows that a step has wanted memory
+-- a view without an agent, which tells what the first agent has seen
 abbrev pub telling : SeatView → SeatView
-telling v = record { agents = []; told = (agent_of v).seen ∷ []; warned = (agent_of v).wanted; holds = false }
+telling v = record { agents = []; told = (agent_of v).seen ∷ []; holds = false }
 
 -- an agent that hears it
-abbrev pub hearing : List (List Entry) → Bool → AgentView → AgentView
-hearing told warned a = record { agent = a.agent; config = a.config; seen = a.seen; mine = a.mine; turns = a.turns; olds = told ++ a.seen ∷ []; wanted = if warned then true else a.wanted }
+abbrev pub hearing : List (List Entry) → AgentView → AgentView
+hearing told a = record { agent = a.agent; config = a.config; seen = a.seen; mine = a.mine; turns = a.turns; olds = told ++ a.seen ∷ [] }
 
 -- the view of such an agent, when it is told by another view
 abbrev pub heard : SeatView → SeatView → SeatView
-heard v w = resting (hearing w.told w.warned (agent_of v))
-
--- 1 where the test holds
-abbrev pub one_if : Bool → ℕ
-one_if b = if b then 1 else 0
+heard v w = resting (hearing w.told (agent_of v))
 
 -- something of each agent, added up over all views
 abbrev pub over_agents : (AgentView → ℕ) → List SeatView → ℕ
@@ -123,48 +110,44 @@ times g agents = sum_by (λ h. one_if (is_agent h g)) agents
 abbrev pub AreOld : List Entry → List (List Entry) → Type 0
 AreOld journal lists = All (λ xs. IsPrefix xs journal) lists
 
--- an agent's own entries are its entries of the journal, what it has seen is the journal's first part, and where it knows that a step has wanted memory the mark says so
-pub record AgentFits (c : Plan) (journal : List Entry) (mark : Bool) (a : AgentView) : Type 0 where
+-- an agent's own entries are its entries of the journal, and what it has seen is the journal's first part
+pub record AgentFits (c : Plan) (journal : List Entry) (a : AgentView) : Type 0 where
   pub config : a.config ≡ c
   pub seen : IsPrefix a.seen journal
   pub mine : a.mine ≡ entries_of a.agent journal
   pub olds : AreOld journal a.olds
-  pub wanted : a.wanted ≡ true → mark ≡ true
 
 -- so it is for each agent of a view, and for what it was told
-abbrev pub ViewFits : Plan → List Entry → Bool → SeatView → Type 0
-ViewFits c journal mark v = All (AgentFits c journal mark) v.agents × AreOld journal v.told × (v.warned ≡ true → mark ≡ true)
+abbrev pub ViewFits : Plan → List Entry → SeatView → Type 0
+ViewFits c journal v = All (AgentFits c journal) v.agents × AreOld journal v.told
 
--- the word is even: the board is at home and has this journal and beside it this mark, and nobody holds it
-pub record IsEven (c : Plan) (journal : List Entry) (mark : Bool) (s : State Slot SeatView) : Type 0 where
+-- the word is even: the board is at home and has this journal, and nobody holds it
+pub record IsEven (c : Plan) (journal : List Entry) (s : State Slot SeatView) : Type 0 where
   pub word : slice_index s.words 0 ≡ 2 * length journal
-  pub held : Held
-  pub home : get_elem? s.homes 0 ≡ some (some (Some held))
-  pub plan_is : held.board.plan ≡ c
-  pub journal_is : held.board.journal ≡ journal
-  pub mark_is : held.out_of_memory ≡ mark
+  pub board : BoardView
+  pub home : get_elem? s.homes 0 ≡ some (some (Some board))
+  pub plan_is : board.plan ≡ c
+  pub journal_is : board.journal ≡ journal
   pub free : (id : ℕ) (v : SeatView) → get_elem? s.views id ≡ some v → v.holds ≡ false
 
--- the word is odd: one seat holds the board, and has seen this journal and this mark
-pub record IsOdd (journal : List Entry) (mark : Bool) (s : State Slot SeatView) : Type 0 where
+-- the word is odd: one seat holds the board, and has seen this journal
+pub record IsOdd (journal : List Entry) (s : State Slot SeatView) : Type 0 where
   pub word : slice_index s.words 0 ≡ 2 * length journal + 1
   pub holder : ℕ
   pub agent : AgentView
   pub held_by : get_elem? s.views holder ≡ some (holding agent)
   pub seen : agent.seen ≡ journal
-  pub mark_is : agent.wanted ≡ mark
   pub alone : (id : ℕ) (v : SeatView) → get_elem? s.views id ≡ some v → v.holds ≡ true → id ≡ holder
 
--- the rule: journal and mark are those of the last even moment, each agent of the board is once in all views, and some agent has seen the whole journal
+-- the rule: the journal is that of the last even moment, each agent of the board is once in all views, and some agent has seen the whole journal
 pub record IsKept (c : Plan) (s : State Slot SeatView) : Type 0 where
   pub journal : List Entry
-  pub mark : Bool
   pub wide : length s.words ≡ 1
   pub slots : length s.homes ≡ 1
-  pub phase : IsEven c journal mark s ⊎ IsOdd journal mark s
+  pub phase : IsEven c journal s ⊎ IsOdd journal s
   pub agents : (f : Agent → ℕ) → over_agents (λ a. f a.agent) s.views ≡ sum_by f (agents_of c)
   pub once : (g : Agent) → times g (agents_of c) ≤ 1
-  pub fits : (id : ℕ) (v : SeatView) → get_elem? s.views id ≡ some v → ViewFits c journal mark v
+  pub fits : (id : ℕ) (v : SeatView) → get_elem? s.views id ≡ some v → ViewFits c journal v
   pub latest : 0 < over_agents (λ a. one_if (length a.seen == length journal)) s.views
 
 -- a seat: its view, and the slots that it holds
@@ -173,9 +156,9 @@ Sat = Me Slot SeatView
 
 -- a take that is won: the seat has the slot with the board, has seen its journal, and what is known of the agent fits it
 pub record Took (m : Sat) (m' : Sat) : Type 0 where
-  pub held : Held
-  pub sat : m' ≡ (holding (taken held.board.journal held.out_of_memory (agent_of m.0)), (0, Some held) ∷ m.1)
-  pub fits : AgentFits held.board.plan held.board.journal held.out_of_memory (agent_of m.0)
+  pub board : BoardView
+  pub sat : m' ≡ (holding (taken board.journal (agent_of m.0)), (0, Some board) ∷ m.1)
+  pub fits : AgentFits board.plan board.journal (agent_of m.0)
 
 -- what a take tells its caller, won or lost
 abbrev pub Takes : Step Slot → Sat → ℕ → Sat → Type 0
@@ -185,17 +168,11 @@ Takes st m n m' = (n ≡ st.first → Took m m') × (n ≢ st.first → m' ≡ m
 abbrev pub journal_in : List (ℕ × Slot) → List Entry
 journal_in [] = []
 journal_in ((k, None) ∷ xs) = []
-journal_in ((k, Some held) ∷ xs) = held.board.journal
-
--- the mark beside it
-abbrev pub mark_in : List (ℕ × Slot) → Bool
-mark_in [] = false
-mark_in ((k, None) ∷ xs) = false
-mark_in ((k, Some held) ∷ xs) = held.out_of_memory
+journal_in ((k, Some board) ∷ xs) = board.journal
 
 -- what a give tells
 abbrev pub Gives : Step Slot → Sat → ℕ → Sat → Type 0
-Gives st m n m' = m' ≡ (resting (given (journal_in m.1) (mark_in m.1) (agent_of m.0)), [])
+Gives st m n m' = m' ≡ (resting (given (journal_in m.1) (agent_of m.0)), [])
 
 -- the journal is what the agent has seen, or one entry of the agent more
 abbrev pub GrowsBy : AgentView → List Entry → Type 0

@@ -11,8 +11,8 @@ use Rattle.mpb_spec.specs.Journal.{IsStep, final_state_of}
 use Rattle.mpb_spec.specs.May.{MayStep, MayAny, IsQuiescent}
 use Rattle.mpb_board.specs.BoardView.{BoardView, state_of, Grows}
 use Rattle.mpb_bus.specs.declared.turn.Turn.{Turn}
-use Rattle.mpb_bus.specs.declared.turn.Turn.TheVariants.{Done, Idle, Quiet, NoMemory}
-use Rattle.mpb_bus.specs.Agents.{IsPrefix}
+use Rattle.mpb_bus.specs.declared.turn.Turn.TheVariants.{Done, Idle, Quiet}
+use Rattle.mpb_spec.specs.Agents.{IsPrefix}
 use Rattle.mpb_bus.specs.Seats.{AgentSeat}
 
 -- the entry of a turn that was made, as a list
@@ -29,9 +29,8 @@ pub record Stepped (old : AgentSeat) (f : Offer) (x : Entry) (new : AgentSeat) :
   pub op : next_op (final_state_of old.plan before) old.agent f ≡ Some x.op
   pub step : IsStep (final_state_of old.plan before) x
 
--- what the answer says of the board before and after: a step of the agent with the offer; or no change, where the agent may not step with it and some agent may with some offer; or where none may; or for want of memory
+-- what the answer says of the board before and after: a step of the agent with the offer; or no change, where the agent may not step with it and some agent may with some offer, or where none may
 abbrev pub Answers : BoardView → Agent → Offer → Turn → BoardView → Type 0
 Answers old g f (Done x) new = Grows old g f x new
 Answers old g f Idle new = (new ≡ old) × (¬ MayStep (state_of old) g f) × ((h : Agent) × MayAny (state_of old) h)
 Answers old g f Quiet new = (new ≡ old) × IsQuiescent (state_of old)
-Answers old g f NoMemory new = new ≡ old

@@ -1,22 +1,22 @@
 //! The shared bus (docs/THREADS.md).
 
-ghost use Rattle.std.specs.Prelude.{◌≡◌, ◌+◌, ◌++◌, ◌∷◌, ◌⊎◌, [], true, map, All, Any, IfOk};
+ghost use Rattle.std.specs.Prelude.{◌≡◌, ◌+◌, ◌++◌, ◌∷◌, ◌⊎◌, [], map, All, Any, IfOk};
 ghost use Rattle.mpb_spec.specs.declared.agent.Agent.{Agent as AnAgent};
 ghost use Rattle.mpb_spec.specs.declared.entry.Entry.{Entry as AnEntry};
 ghost use Rattle.mpb_spec.specs.Journal.{IsComplete, IsLegal};
 ghost use Rattle.mpb_spec.specs.May.{IsQuiescent, MayAny, MayStep};
-ghost use Rattle.mpb_bus.specs.declared.turn.Turn.TheVariants.{Done, Idle, NoMemory as Wanted, Quiet};
-ghost use Rattle.mpb_bus.specs.Agents.{IsPrefix, agents_of, entries_of};
+ghost use Rattle.mpb_bus.specs.declared.turn.Turn.TheVariants.{Done, Idle, Quiet};
+ghost use Rattle.mpb_spec.specs.Agents.{IsPrefix, agents_of, entries_of};
 ghost use Rattle.mpb_bus.specs.Seats.{AreSeatsOf, fresh_seat, state_seen};
 ghost use Rattle.mpb_bus.specs.Turns.{Stepped, entries_in};
 
 use crate::closing::{settle, take_all};
 use crate::holding::{Words, give, take};
-use crate::opening::{agents_in, open_words, seats_of};
+use crate::opening::{open_words, seats_of};
 use crate::rule::{Heard, Told};
 use crate::seat::BusSeat;
 use crate::turn::Turn;
-use mpb_board::{Board, Offer};
+use mpb_board::{Board, Offer, agents};
 use mpt_base::NoMemory;
 use std::alloc::Global;
 use std::marker::Model;
@@ -50,7 +50,7 @@ impl Bus {
         ensures all { IfOk result (λ made. AreSeatsOf made.0 made.1.items) }
         ensures legal { IfOk result (λ _. IsLegal board.plan board.journal) }
     {
-        let agents = agents_in(alloc, board.config())?;
+        let agents = agents(alloc, board.config())?;
         let _ = board.journal();
         let (words, mut all) = open_words(alloc, board)?;
         let seats = seats_of(alloc, &words, &mut all, agents.as_slice())?;
@@ -61,7 +61,7 @@ impl Bus {
     /// It may wait.
     pub fn turn<R: Wait>(&self, rt: &R, seat: &mut BusSeat, offer: Offer) -> Turn
         requires seat { seat.old.bus ≡ self.now.bus }
-        ensures seat { seat.new ≡ record seat.old { seen = seat.new.seen; mine = seat.new.mine; turns = seat.old.turns + 1; wanted = seat.new.wanted } }
+        ensures seat { seat.new ≡ record seat.old { seen = seat.new.seen; mine = seat.new.mine; turns = seat.old.turns + 1 } }
         ensures prefix { IsPrefix seat.old.seen seat.new.seen }
         ensures legal { IsLegal seat.new.plan seat.new.seen }
         ensures grows { seat.new.mine ≡ seat.old.mine ++ entries_in result }
@@ -70,12 +70,10 @@ impl Bus {
         ensures done { (x : AnEntry) → result ≡ Done x → Stepped seat.old offer x seat.new }
         ensures idle { result ≡ Idle → (¬ MayStep (state_seen seat.new) seat.new.agent offer) × ((g : AnAgent) × MayAny (state_seen seat.new) g) }
         ensures quiet { result ≡ Quiet → IsQuiescent (state_seen seat.new) }
-        ensures wanted { result ≡ Wanted → seat.new.wanted ≡ true }
-        ensures after { seat.old.wanted ≡ true → result ≡ Wanted }
     {
-        let mut held = take(&self.words, rt, &mut seat.seat);
-        let answer = held.turn(seat.agent, offer);
-        give(&self.words, &mut seat.seat, held);
+        let mut board = take(&self.words, rt, &mut seat.seat);
+        let answer = Turn::make(&mut board, seat.agent, offer);
+        give(&self.words, &mut seat.seat, board);
         answer
     }
 
@@ -85,17 +83,16 @@ impl Bus {
         requires one { one.old.bus ≡ self.now.bus }
         requires two { two.old.bus ≡ self.now.bus }
         ensures one { one.new ≡ one.old }
-        ensures two { two.new ≡ record two.old { seen = two.new.seen; turns = two.old.turns + 1; olds = one.old.seen ∷ two.old.seen ∷ []; wanted = two.new.wanted } }
+        ensures two { two.new ≡ record two.old { seen = two.new.seen; turns = two.old.turns + 1; olds = one.old.seen ∷ two.old.seen ∷ [] } }
         ensures both { IsPrefix one.old.seen two.new.seen × IsPrefix two.old.seen two.new.seen }
         ensures order { IsPrefix one.old.seen two.old.seen ⊎ IsPrefix two.old.seen one.old.seen }
         ensures legal { IsLegal two.new.plan two.new.seen }
         ensures mine { two.new.mine ≡ entries_of two.new.agent two.new.seen }
-        ensures wanted { (one.old.wanted ≡ true → two.new.wanted ≡ true) × (two.old.wanted ≡ true → two.new.wanted ≡ true) }
     {
         let told = self.words.shared.split_seat::<Told>(&mut one.seat);
         self.words.shared.join_seat::<Heard>(&mut two.seat, told);
-        let held = take(&self.words, rt, &mut two.seat);
-        give(&self.words, &mut two.seat, held);
+        let board = take(&self.words, rt, &mut two.seat);
+        give(&self.words, &mut two.seat, board);
     }
 
     /// Takes all seats of the bus back, in the order in which `new` gave them, and gives the board.

@@ -7,7 +7,7 @@ ghost use Rattle.mpb_spec.specs.declared.entry.Entry.{Entry as AnEntry};
 ghost use Rattle.mpb_spec.specs.Plan.{Plan};
 ghost use Rattle.mpb_spec.specs.Journal.{final_state_of};
 ghost use Rattle.mpb_spec.specs.May.{MayAny};
-ghost use Rattle.mpb_bus.specs.Agents.{agents_of};
+ghost use Rattle.mpb_spec.specs.Agents.{agents_of};
 
 /// Whatever has happened on a board, an agent that may step is one of the board's agents, so it has a
 /// seat.

@@ -4,7 +4,6 @@
 
 mod bus;
 mod closing;
-mod held;
 mod holding;
 mod laws;
 mod opening;

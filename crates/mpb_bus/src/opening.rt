@@ -1,77 +1,26 @@
 //! A shared bus is opened: its word and its slot, and its seats, which are cut one by one from the
 //! first.
 
-ghost use Rattle.std.specs.Prelude.{◌≡◌, ◌<◌, ◌++◌, [], false, length, IfOk, OnOk, map};
-ghost use Rattle.std.specs.List.{range_with_len};
-ghost use Rattle.mpb_spec.specs.declared.agent.Agent.TheVariants.{Cpu, Io, Dev};
+ghost use Rattle.std.specs.Prelude.{◌≡◌, ◌<◌, [], false, length, IfOk, map};
 ghost use Rattle.mpb_spec.specs.Configs.{IsConfig};
-ghost use Rattle.mpb_bus.specs.Agents.{agents_of};
 ghost use Rattle.mpb_bus.specs.Seats.{fresh_seat};
 ghost use Rattle.mpb_bus.specs.Rule.{agent_of, fresh_agent, nobody, opening_view, shown_agent, without_agent};
 
-use crate::held::Held;
 use crate::holding::Words;
 use crate::rule::OneAgent;
 use crate::seat::BusSeat;
 use crate::view::SeatView;
 use atomic_table::{Seat, Table};
-use mpb_board::{Agent, Board, Config, CpuConfig};
+use mpb_board::{Agent, Board};
 use mpt_base::NoMemory;
 use std::alloc::Global;
 use std::snapshot::Snapshot;
-
-/// The processors, in order.
-fn processors(alloc: Global, cpus: &[CpuConfig]) -> Result<Vec<Agent>, NoMemory>
-    ensures { IfOk result (λ agents. agents.items ≡ map (λ p. Cpu p.id) cpus.now) }
-{
-    let mut agents = Vec::new(alloc);
-    for cpu in cpus {
-        let Ok(()) = agents.push(Agent::Cpu(cpu.id)) else {
-            return Err(NoMemory);
-        };
-    }
-    Ok(agents)
-}
-
-/// Behind them so many I/O APICs.
-fn push_places(agents: &mut Vec<Agent>, count: u8) -> Result<(), NoMemory>
-    ensures { OnOk result (agents.new.items ≡ agents.old.items ++ map Io (range_with_len 0 count)) }
-{
-    for place in 0..count {
-        let Ok(()) = agents.push(Agent::Io(place)) else {
-            return Err(NoMemory);
-        };
-    }
-    Ok(())
-}
-
-/// And so many devices.
-fn push_devices(agents: &mut Vec<Agent>, count: u8) -> Result<(), NoMemory>
-    ensures { OnOk result (agents.new.items ≡ agents.old.items ++ map Dev (range_with_len 0 count)) }
-{
-    for number in 0..count {
-        let Ok(()) = agents.push(Agent::Dev(number)) else {
-            return Err(NoMemory);
-        };
-    }
-    Ok(())
-}
-
-/// The agents of a board, in order.
-pub(crate) fn agents_in(alloc: Global, config: &Config) -> Result<Vec<Agent>, NoMemory>
-    ensures { IfOk result (λ agents. agents.items ≡ agents_of config.now) }
-{
-    let mut agents = processors(alloc, config.cpus.as_slice())?;
-    push_places(&mut agents, config.ios.len() as u8)?;
-    push_devices(&mut agents, config.devices.len() as u8)?;
-    Ok(agents)
-}
 
 /// The word and the slot, and a seat that has all agents.
 pub(crate) fn open_words(
     alloc: Global,
     board: Board,
-) -> Result<(Words, Seat<Option<Held>, SeatView>), NoMemory>
+) -> Result<(Words, Seat<Option<Board>, SeatView>), NoMemory>
     requires { IsConfig board.plan }
     ensures table { IfOk result (λ made. (made.0.shared.table_id.words ≡ 1) × (made.0.shared.table_id.slots ≡ 1) × (made.0.shared.key.value ≡ board)) }
     ensures seat { IfOk result (λ made. (made.1.table_id ≡ made.0.shared.table_id) × (made.1.me ≡ (opening_view board.plan board.journal, []))) }
@@ -79,10 +28,7 @@ pub(crate) fn open_words(
     let start = Snapshot::of(&board);
     let words = [2 * board.journal().len() as u64];
     let mut slots = Vec::new(alloc);
-    let Ok(()) = slots.push(Some(Held {
-        board,
-        out_of_memory: false,
-    })) else {
+    let Ok(()) = slots.push(Some(board)) else {
         return Err(NoMemory);
     };
     match Table::new(alloc, &words, slots, &start) {
@@ -92,7 +38,7 @@ pub(crate) fn open_words(
 }
 
 /// Cuts off the first agent that is left.
-fn cut_agent(words: &Words, all: &mut Seat<Option<Held>, SeatView>, agent: Agent) -> BusSeat
+fn cut_agent(words: &Words, all: &mut Seat<Option<Board>, SeatView>, agent: Agent) -> BusSeat
     requires words { (words.now.shared.table_id.words ≡ 1) × (all.old.table_id ≡ words.now.shared.table_id) }
     requires free { all.old.me.0.holds ≡ false }
     requires agent { (0 < length all.old.me.0.agents) × (agent ≡ (agent_of all.old.me.0).agent) }
@@ -107,7 +53,7 @@ fn cut_agent(words: &Words, all: &mut Seat<Option<Held>, SeatView>, agent: Agent
 pub(crate) fn seats_of(
     alloc: Global,
     words: &Words,
-    all: &mut Seat<Option<Held>, SeatView>,
+    all: &mut Seat<Option<Board>, SeatView>,
     agents: &[Agent],
 ) -> Result<Vec<BusSeat>, NoMemory>
     requires words { (words.now.shared.table_id.words ≡ 1) × (all.old.table_id ≡ words.now.shared.table_id) }

@@ -1,6 +1,5 @@
 //! The rule of the shared bus, and what its steps tell (docs/THREADS.md).
 
-use crate::held::Held;
 use crate::view::SeatView;
 use atomic_table::{Join, Play, Split, TableRule};
 use mpb_board::Board;
@@ -12,7 +11,7 @@ pub(crate) struct OneHistory;
 /// What the rule may read: the board as it was when the bus was made.
 pub(crate) type Start = Snapshot<Board>;
 
-impl TableRule<Option<Held>, SeatView, Start> for OneHistory {
+impl TableRule<Option<Board>, SeatView, Start> for OneHistory {
     ghost use Rattle.mpb_bus.specs.Rule.{IsKept, opening_view};
 
     ghost holds = { λ key. IsKept key.value.plan };
@@ -23,7 +22,7 @@ impl TableRule<Option<Held>, SeatView, Start> for OneHistory {
 /// A take of the turn, won or lost.
 pub(crate) struct Taken;
 
-impl Play<Option<Held>, SeatView> for Taken {
+impl Play<Option<Board>, SeatView> for Taken {
     ghost use Rattle.mpb_bus.specs.Rule.{Takes};
 
     ghost then = { Takes };
@@ -32,7 +31,7 @@ impl Play<Option<Held>, SeatView> for Taken {
 /// A give of the turn.
 pub(crate) struct Given;
 
-impl Play<Option<Held>, SeatView> for Given {
+impl Play<Option<Board>, SeatView> for Given {
     ghost use Rattle.mpb_bus.specs.Rule.{Gives};
 
     ghost then = { Gives };
@@ -85,7 +84,7 @@ impl Join<SeatView> for Together {
 /// A new seat that stands for nobody.
 pub(crate) struct Enters;
 
-impl Play<Option<Held>, SeatView> for Enters {
+impl Play<Option<Board>, SeatView> for Enters {
     ghost use Rattle.std.specs.Prelude.{◌≡◌, []};
     ghost use Rattle.mpb_bus.specs.Rule.{nobody};
 

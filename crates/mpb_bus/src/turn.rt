@@ -1,6 +1,8 @@
-//! What a turn answers.
+//! A turn: what an agent does on the board, and what it answers.
 
-use mpb_board::Entry;
+ghost use Rattle.mpb_bus.specs.Turns.{Answers};
+
+use mpb_board::{Agent, Board, Entry, Offer};
 
 /// What a turn of an agent did.
 #[derive(Drop)]
@@ -11,6 +13,23 @@ pub enum Turn {
     Idle,
     /// No agent may step with any offer.
     Quiet,
-    /// Memory ran out, in this turn or an earlier one.
-    NoMemory,
+}
+
+impl Turn {
+    /// One turn of the agent on the board: a step where it may step with the offer.
+    pub(crate) fn make(board: &mut Board, agent: Agent, offer: Offer) -> Turn
+        ensures answers { Answers board.old agent offer result board.new }
+    {
+        if board.advance(agent, offer) {
+            return match board.last() {
+                Some(entry) => Turn::Done(entry.again()),
+                None => unreachable!(),
+            };
+        }
+        if board.quiet() {
+            Turn::Quiet
+        } else {
+            Turn::Idle
+        }
+    }
 }

@@ -5,8 +5,7 @@ use mpb_board::{Agent, Config, Entry};
 use std::collections::LinkedList;
 
 /// What is known of an agent: the config of the board, the journal as it was last seen, the agent's
-/// own entries, how often it took the turn, what the two seats of the last meeting had seen, and whether
-/// it is known that a step has wanted memory.
+/// own entries, how often it took the turn, and what the two seats of the last meeting had seen.
 pub struct AgentView {
     pub agent: Agent,
     pub config: Config,
@@ -14,14 +13,12 @@ pub struct AgentView {
     pub mine: LinkedList<Entry>,
     pub turns: u64,
     pub olds: LinkedList<LinkedList<Entry>>,
-    pub wanted: bool,
 }
 
-/// The agents that a seat stands for, what it was told that others had seen, whether it was told that a
-/// step has wanted memory, and whether it holds the board.
+/// The agents that a seat stands for, what it was told that others had seen, and whether it holds the
+/// board.
 pub struct SeatView {
     pub agents: LinkedList<AgentView>,
     pub told: LinkedList<LinkedList<Entry>>,
-    pub warned: bool,
     pub holds: bool,
 }

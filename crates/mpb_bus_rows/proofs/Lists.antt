@@ -9,7 +9,7 @@ use Rattle.mpb_spec.specs.declared.agent.Agent.{Agent}
 use Rattle.mpb_spec.specs.declared.config.DevWord.{DevWord}
 use Rattle.mpb_spec.specs.Plan.{CpuPlan}
 use Rattle.mpb_spec.specs.declared.entry.Entry.{Entry}
-use Rattle.mpb_bus.specs.Agents.{is_agent, entries_of, IsPrefix}
+use Rattle.mpb_spec.specs.Agents.{is_agent, entries_of, IsPrefix}
 use Rattle.mpb_bus.specs.Seats.{AgentSeat, SharedBus, AreSeatsOf}
 
 -- what was written through a slice of the whole

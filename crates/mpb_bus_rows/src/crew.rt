@@ -9,13 +9,13 @@ use std::sync::Wait;
 use std::thread;
 use std::thread::Threads;
 
-/// Whether the agent's work is over: no agent may step with any offer, or memory ran out.
+/// Whether the agent's work is over: no agent may step with any offer.
 fn is_over<R: Wait>(rt: &R, bus: &Bus, seat: &mut BusSeat, offer: Offer) -> bool
     requires { seat.old.bus ≡ bus.now.bus }
     ensures { (seat.new.bus ≡ seat.old.bus) × (seat.new.agent ≡ seat.old.agent) }
 {
     match bus.turn(rt, seat, offer) {
-        Turn::Quiet | Turn::NoMemory => true,
+        Turn::Quiet => true,
         Turn::Done(_) | Turn::Idle => false,
     }
 }

@@ -1,7 +1,7 @@
 //! What a meeting tells.
 
 ghost use Rattle.std.specs.Prelude.{◌≡◌, ◌∷◌, ◌++◌, [], IfOk, IfSome};
-ghost use Rattle.mpb_bus.specs.Agents.{IsPrefix, entries_of};
+ghost use Rattle.mpb_spec.specs.Agents.{IsPrefix, entries_of};
 
 use crate::boards::two_processors;
 use crate::harness::opened;
@@ -21,7 +21,7 @@ fn entry_of<R: Wait>(rt: &R, bus: &Bus, seat: &mut BusSeat) -> Option<Entry>
 {
     match bus.turn(rt, seat, Offer::Next) {
         Turn::Done(entry) => Some(entry),
-        Turn::Idle | Turn::Quiet | Turn::NoMemory => None,
+        Turn::Idle | Turn::Quiet => None,
     }
 }
 

@@ -152,6 +152,11 @@ config_true page c e =
       words = all-true (λ words. list_all (is_word_on (length c.ios)) words) (AllByRecursion (IsWordOn (length c.ios))) c.devices (λ words h. all-true (is_word_on (length c.ios)) (IsWordOn (length c.ios)) words (word-true (length c.ios)) h) t8.1;
     }
 
+-- its page is the one that was asked
+pub config_at : (page : ℕ) (c : Plan) → is_config page c ≡ true → IsConfigAt page c
+unfolding config_true
+config_at page c e = (config_true page c e, refl)
+
 pub true_config : (page : ℕ) (c : Plan) → IsConfigAt page c → is_config page c ≡ true
 true_config page c at =
     let h : IsConfig c = at.0 in

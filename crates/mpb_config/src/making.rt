@@ -35,8 +35,8 @@ fn is_config(
         && all_are_on(devices, ios.len())
 }
 
-/// The config of these parts, none exactly where they are no config whose boot program names this page,
-/// where it names one. The parts are those of `Config`.
+/// The config of these parts, whose boot program names this page, where it names one; none exactly where
+/// they are no such config. The parts are those of `Config`.
 pub fn config_of(
     page: u8,
     boot: u8,
@@ -47,6 +47,7 @@ pub fn config_of(
     devices: Vec<Vec<DevWord>>,
 ) -> Option<Config>
     ensures some { IfSome result (λ c. c ≡ record { boot = boot; boot_len = boot_len; cpus = cpus.items; ios = ios.items; imcr = imcr; devices = map (λ words. words.items) devices.items }) }
+    ensures is { IfSome result (λ c. IsConfigAt page c) }
     ensures none { IfNone result (¬ IsConfigAt page (record { boot = boot; boot_len = boot_len; cpus = cpus.items; ios = ios.items; imcr = imcr; devices = map (λ words. words.items) devices.items })) }
 {
     if !is_config(

@@ -28,11 +28,14 @@ fn is_script_op(op: Op) -> bool
 {
     match op {
         Op::Ipi(..) => true,
+        Op::Ipl(..) => true,
         Op::Nmi(_) => true,
         Op::Take => true,
         Op::Poll => true,
         Op::Eoi => true,
         Op::Tpr(_) => true,
+        Op::Ldr(_) => true,
+        Op::Dfr(model) => model == 0 || model == 15,
         Op::IoSel(..) => true,
         Op::IoWin(..) => true,
         Op::IoRead(_) => true,

@@ -1,2 +1,5 @@
 pub mod LocalLemmas
 pub mod PinLaws
+pub mod LogicalLemmas
+pub mod TargetLemmas
+pub mod BoardLaws

@@ -5,7 +5,7 @@ use Rattle.std.proofs.lemmas.Bool.{cond-true, cond-false, leb-true, leb-false, l
 use Rattle.std.proofs.lemmas.Option.{slice_get-get_or}
 use Rattle.mpb_spec.specs.Numbers.{has, with_number, without, greatest, IsAscending}
 use Rattle.mpb_spec.specs.LocalApic.{LocalApic, reset, priority_over, ppr, above, next_vector, accepted, taken_from, taken, ended_of, ended, after_end_of, after_end}
-use Rattle.mpb_spec.proofs.NumberLemmas.{AllBelow, IsAscending-with, IsAscending-without, has-with_itself, has-with_other, has-without_itself}
+use Rattle.mpb_spec.proofs.NumberLemmas.{AllBelow, IsAscending-with, IsAscending-without, has-with_itself, has-with_other, has-without_itself, has-without_other}
 use Rattle.mpb_core_laws.specs.Words.{IsOrdered, IsGreatest}
 
 -- the greatest of an ascending list
@@ -118,6 +118,13 @@ accepted-others a u v level ne = go (nat_lt v 16) where
   go : (b : Bool) → has u (cond b a (record a { irr = with_number v a.irr; tmr = cond level (with_number v a.tmr) (without v a.tmr) })).irr ≡ has u a.irr
   go true = refl
   go false = has-with_other u v a.irr ne
+
+pub accepted-triggers : (a : LocalApic) (u v : ℕ) (level : Bool) → u ≢ v → has u (accepted v level a).tmr ≡ has u a.tmr
+accepted-triggers a u v level ne = go (nat_lt v 16) level where
+  go : (b level : Bool) → has u (cond b a (record a { irr = with_number v a.irr; tmr = cond level (with_number v a.tmr) (without v a.tmr) })).tmr ≡ has u a.tmr
+  go true level = refl
+  go false true = has-with_other u v a.tmr ne
+  go false false = has-without_other u v a.tmr ne
 
 pub accepted-illegal : (a : LocalApic) (v : ℕ) (level : Bool) → v < 16 → accepted v level a ≡ a
 accepted-illegal a v level lt = cond-true (nat_lt v 16) a (record a { irr = with_number v a.irr; tmr = cond level (with_number v a.tmr) (without v a.tmr) }) (lt-ltb v 16 lt)

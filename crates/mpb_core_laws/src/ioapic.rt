@@ -28,8 +28,8 @@ pub fn masks_are_by_bits()
     ensures mask { (f : APin → Bool) (n : ℕ) (pins : List APin) (p : APin) → slice_get pins n ≡ Some p → has_bit (mask_by f pins) n ≡ f p }
 {}
 
-/// The pins that are left to collect: pin n may be named where its count isn't 0, and a collection that
-/// names it takes one.
+/// The pins that are left to collect: a collection names only pins that are there and whose count isn't 0,
+/// and takes one of each that it names.
 pub fn collections_left_are_by_bits()
     ensures named { (mask n k : ℕ) (left : List ℕ) → all_left mask left ≡ true → slice_get left n ≡ Some k → has_bit mask n ≡ true → 0 < k }
     ensures beyond { (mask n : ℕ) (left : List ℕ) → all_left mask left ≡ true → slice_get left n ≡ None → has_bit mask n ≡ false }
@@ -53,7 +53,8 @@ pub fn masked_pin_is_never_due()
     ensures eoi { (p : APin) (vector : ℕ) → IsQuietWhereMasked p → IsQuietWhereMasked (with_eoi vector p) }
 {}
 
-/// A level pin whose line stays asserted is due again after its end of interrupt, and only then.
+/// A level pin whose message was accepted and whose line stays asserted is due again after the end of that
+/// interrupt, where it is unmasked. Before, no level of its line makes it due.
 pub fn asserted_level_pin_is_due_again()
     ensures again { (p : APin) → is_level p ≡ true → is_masked p ≡ false → p.line ≡ true → (with_eoi (vector_of p) (with_sent true p)).due ≡ true }
     ensures not_before { (p : APin) (is_high : Bool) → p.line ≡ true → (with_line is_high (with_sent true p)).due ≡ false }

@@ -1,10 +1,10 @@
-//! Laws of a local APIC, in the words of Intel SDM volume 3, sections 10.8.3 to 10.8.5.
+//! Laws of a local APIC, in the words of Intel SDM volume 3, sections 10.8.3 to 10.8.5 and 10.6.2.2.
 
-ghost use Rattle.std.specs.Prelude.{◌≡◌, ◌≢◌, ◌≤◌, ◌<◌, ◌/◌, ℕ, Bool, true, false, List, [], Some, None};
+ghost use Rattle.std.specs.Prelude.{◌≡◌, ◌≢◌, ◌≤◌, ◌<◌, ◌↔◌, ◌/◌, ℕ, Bool, true, false, List, [], Some, None};
 ghost use Rattle.std.specs.List.{AllByRecursion};
 ghost use Rattle.mpb_spec.specs.Numbers.{has, with_number, without, greatest, IsAscending};
-ghost use Rattle.mpb_spec.specs.LocalApic.{LocalApic as Apic, reset, ppr, next_vector, accepted, taken, ended, after_end};
-ghost use Rattle.mpb_core_laws.specs.Words.{IsOrdered, IsGreatest};
+ghost use Rattle.mpb_spec.specs.LocalApic.{LocalApic as Apic, reset, ppr, next_vector, accepted, taken, ended, after_end, matches};
+ghost use Rattle.mpb_core_laws.specs.Words.{IsOrdered, IsGreatest, SharesBit};
 
 /// A set with or without a number has the other members that it had.
 pub fn members_of_a_set()
@@ -45,11 +45,12 @@ pub fn nothing_passes_the_priority()
 {}
 
 /// An accepted interrupt is requested, and the vector's trigger is that of the last one that was accepted;
-/// other vectors stay as they were.
+/// of other vectors neither changes. A vector below 16 changes nothing.
 pub fn accepting_requests_the_vector()
     ensures irr { (a : Apic) (v : ℕ) (level : Bool) → 16 ≤ v → has v (accepted v level a).irr ≡ true }
     ensures tmr { (a : Apic) (v : ℕ) (level : Bool) → 16 ≤ v → has v (accepted v level a).tmr ≡ level }
     ensures others { (a : Apic) (u v : ℕ) (level : Bool) → u ≢ v → has u (accepted v level a).irr ≡ has u a.irr }
+    ensures other_triggers { (a : Apic) (u v : ℕ) (level : Bool) → u ≢ v → has u (accepted v level a).tmr ≡ has u a.tmr }
     ensures illegal { (a : Apic) (v : ℕ) (level : Bool) → v < 16 → accepted v level a ≡ a }
 {}
 
@@ -64,4 +65,13 @@ pub fn accepting_leaves_service()
 pub fn take_then_end_gives_the_vector_back()
     ensures vector { (a : Apic) (v : ℕ) → IsOrdered a → next_vector a ≡ Some v → ended (taken a) ≡ Some (v, has v a.tmr) }
     ensures service { (a : Apic) (v : ℕ) → IsOrdered a → next_vector a ≡ Some v → (after_end (taken a)).isr ≡ a.isr }
+{}
+
+/// A logical destination of 255 is everyone's. Another is a local APIC's own in the flat model where some
+/// bit is set in both, and in the cluster model where bits 7:4 name its cluster and some bit of 3:0 is set
+/// in both.
+pub fn logical_destinations_are_by_bits()
+    ensures everyone { (a : Apic) → matches 255 a ≡ true }
+    ensures flat { (a : Apic) (dest : ℕ) → dest < 255 → a.dfr ≡ 15 → (matches dest a ≡ true) ↔ SharesBit 8 dest a.ldr }
+    ensures cluster { (a : Apic) (dest : ℕ) → dest < 255 → a.dfr ≡ 0 → (matches dest a ≡ true) ↔ ((dest / 16 ≡ a.ldr / 16) × SharesBit 4 dest a.ldr) }
 {}

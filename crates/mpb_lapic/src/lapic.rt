@@ -1,8 +1,9 @@
 //! The interrupt part of a local APIC (Intel SDM volume 3, sections 10.8.3 to 10.8.5): vectors
-//! requested (IRR), in service (ISR) and level-triggered (TMR), and the task priority (TPR).
+//! requested (IRR), in service (ISR) and level-triggered (TMR), and the task priority (TPR); and its
+//! logical destination (section 10.6.2.2).
 
-ghost use Rattle.std.specs.Prelude.{◌≡◌};
-ghost use Rattle.mpb_spec.specs.LocalApic.{reset, ppr, next_vector, acceptance, accepted, taken, ended, after_end};
+ghost use Rattle.std.specs.Prelude.{◌≡◌, ◌⊎◌};
+ghost use Rattle.mpb_spec.specs.LocalApic.{reset, ppr, next_vector, acceptance, accepted, taken, ended, after_end, matches, matches_flat, matches_cluster};
 ghost use Rattle.mpb_spec.specs.Numbers.{has, greatest};
 
 use mpb_bits::Rows;
@@ -19,6 +20,8 @@ pub struct Lapic {
     isr: Vectors,
     tmr: Vectors,
     tpr: u8,
+    ldr: u8,
+    dfr: u8,
 }
 
 impl Model for Lapic {
@@ -26,11 +29,12 @@ impl Model for Lapic {
 
     ghost Value = { LocalApic };
 
-    ghost view = { λ a. record { irr = a.irr; isr = a.isr; tmr = a.tmr; tpr = a.tpr } };
+    ghost view = { λ a. record { irr = a.irr; isr = a.isr; tmr = a.tmr; tpr = a.tpr; ldr = a.ldr; dfr = a.dfr } };
 }
 
 impl Lapic {
-    /// A local APIC after a reset: all sets are empty, and the task priority is 0.
+    /// A local APIC after a reset: all sets are empty, the task priority is 0, and it has no logical
+    /// destination in the flat model.
     pub fn new() -> Lapic
         ensures state { result ≡ reset }
     {
@@ -39,6 +43,8 @@ impl Lapic {
             isr: Vectors::none(),
             tmr: Vectors::none(),
             tpr: 0,
+            ldr: 0,
+            dfr: 15,
         }
     }
 
@@ -119,6 +125,59 @@ impl Lapic {
         ensures priority { result ≡ self.now.tpr }
     {
         self.tpr
+    }
+
+    /// Sets the logical destination: bits 31:24 of the LDR.
+    pub fn set_ldr(&mut self, ldr: u8)
+        ensures state { self.new ≡ record self.old { ldr = ldr } }
+    {
+        self.ldr = ldr;
+    }
+
+    /// The logical destination: bits 31:24 of the LDR.
+    pub fn ldr(&self) -> u8
+        ensures register { result ≡ self.now.ldr }
+    {
+        self.ldr
+    }
+
+    /// Sets the model of logical destinations, bits 31:28 of the DFR. Condition: it is 15, flat, or 0,
+    /// cluster.
+    pub fn set_dfr(&mut self, model: u8)
+        requires model { (model ≡ 0) ⊎ (model ≡ 15) }
+        ensures state { self.new ≡ record self.old { dfr = model } }
+    {
+        self.dfr = model;
+    }
+
+    /// The model of logical destinations, bits 31:28 of the DFR.
+    pub fn dfr(&self) -> u8
+        ensures register { result ≡ self.now.dfr }
+    {
+        self.dfr
+    }
+
+    /// Whether a logical destination is its own: 255 is everyone's; in the flat model where some bit is
+    /// set in both, and in the cluster model where bits 7:4 of both are equal and some bit of 3:0 is set
+    /// in both.
+    pub fn matches(&self, dest: u8) -> bool
+        ensures exact { result ≡ matches dest self.now }
+    {
+        dest == 255 || self.matches_flat(dest) || self.matches_cluster(dest)
+    }
+
+    // in the flat model
+    fn matches_flat(&self, dest: u8) -> bool
+        ensures { result ≡ matches_flat dest self.now }
+    {
+        self.dfr == 15 && dest & self.ldr != 0
+    }
+
+    // in the cluster model
+    fn matches_cluster(&self, dest: u8) -> bool
+        ensures { result ≡ matches_cluster dest self.now }
+    {
+        self.dfr == 0 && dest / 16 == self.ldr / 16 && (dest % 16) & (self.ldr % 16) != 0
     }
 
     /// Whether the vector is requested.

@@ -5,17 +5,17 @@ use Rattle.std.specs.List.{range_with_len}
 use Rattle.std.proofs.Math.Seq.{take-length}
 use Rattle.std.proofs.lemmas.List.{length-map, get_or-map}
 use Rattle.std.proofs.lemmas.List.FromFn.{length-range_with_len, get_or-range_with_len}
-use Rattle.mpb_latch.specs.declared.pulse.Pulse.{Pulse}
-use Rattle.mpb_latch.specs.declared.pulse.Hit.{Hit}
-use Rattle.mpb_latch.specs.declared.pulse.Hit.TheVariants.{New}
+use Rattle.mpb_spec.specs.declared.pulse.Pulse.{Pulse}
+use Rattle.mpb_spec.specs.declared.pulse.Hit.{Hit}
+use Rattle.mpb_spec.specs.declared.pulse.Hit.TheVariants.{New}
 use Rattle.mpb_latch.specs.declared.view.DeviceView.{DeviceView}
 use Rattle.mpb_latch.specs.declared.view.CollectorView.{CollectorView}
-use Rattle.mpb_latch.specs.Pulses.{FollowsPlan, pulses_of, first_hit, new_hits, new_hits_in}
+use Rattle.mpb_spec.specs.Pulses.{FollowsPlan, pulses_of, first_hit, new_hits, new_hits_in, hits, starts}
 use Rattle.mpb_latch.specs.Seats.{DeviceSeat, CollectorSeat}
-use Rattle.mpb_latch.specs.Rule.{hits, starts, no_collector, known_device, known_collector, DeviceFits, SettlesAt}
-use Rattle.mpb_latch.proofs.Logs.{first_new, first_hits}
-use Rattle.mpb_latch.proofs.Pulses.{All_map}
-use Rattle.mpb_latch.proofs.Starts.{sum_map, counts_at, all_mapped, sum_above, any_above, starts_le}
+use Rattle.mpb_latch.specs.Rule.{no_collector, known_device, known_collector, DeviceFits, SettlesAt}
+use Rattle.mpb_spec.proofs.Logs.{first_new, first_hits, starts_le}
+use Rattle.mpb_spec.proofs.Lists.{All_map, sum_map, all_mapped, sum_above, any_above}
+use Rattle.mpb_latch.proofs.Starts.{counts_at}
 
 module _ (seats : List DeviceSeat) (cols : List CollectorSeat) (devices : List DeviceView) (collectors : List CollectorView) (logs : List (List (Pulse × Hit))) (counts : List (List ℕ))
     (devices_are : devices ≡ map known_device seats) (collectors_are : collectors ≡ map known_collector cols) (logs_are : logs ≡ map (λ s. s.log) seats) (counts_are : counts ≡ map (λ c. c.counts) cols) where

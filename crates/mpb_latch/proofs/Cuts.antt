@@ -11,16 +11,17 @@ use Rattle.std.proofs.lemmas.Nat.Bits.{bit_at-lt, bit_at-zero}
 use Rattle.std.specs.Int.{bit_at}
 use Rattle.atomic_table.specs.Table.{State, Splits, Joins, opening}
 use Rattle.atomic_table.proofs.Lists.{at_set, at_snoc}
-use Rattle.mpb_latch.specs.declared.pulse.Pulse.{Pulse}
+use Rattle.mpb_spec.specs.declared.pulse.Pulse.{Pulse}
 use Rattle.mpb_latch.specs.declared.view.DeviceView.{DeviceView}
 use Rattle.mpb_latch.specs.declared.view.CollectorView.{CollectorView}
 use Rattle.mpb_latch.specs.declared.view.SeatView.{SeatView}
-use Rattle.mpb_latch.specs.Pulses.{planned_in, new_hits_in}
-use Rattle.mpb_latch.specs.Rule.{one_if, hits, starts}
-use Rattle.mpb_latch.specs.Rule.{Plans, device, collector, device_of, collector_of, no_device, no_collector, nobody, together, without_device, first_device, without_collector, first_collector, rest_of, first_of_list, over_devices, over_collectors, count_at, DeviceFits, CollectorFits, IsBalanced, SettlesAt, opening_view, fresh_device, fresh_collector, fresh_collectors}
-use Rattle.mpb_latch.proofs.Sums.{sum_set, each_set, over-le_all}
-use Rattle.mpb_latch.proofs.Logs.{news-le-hits, hits-le-planned}
-use Rattle.mpb_latch.proofs.Pulses.{All_map, over-le}
+use Rattle.mpb_spec.specs.Pulses.{planned_in, new_hits_in, hits, starts}
+use Rattle.mpb_spec.specs.Lists.{one_if, rest_of, first_of_list}
+use Rattle.mpb_latch.specs.Rule.{Plans, device, collector, device_of, collector_of, no_device, no_collector, nobody, together, without_device, first_device, without_collector, first_collector, over_devices, over_collectors, count_at, DeviceFits, CollectorFits, IsBalanced, SettlesAt, opening_view, fresh_device, fresh_collector, fresh_collectors}
+use Rattle.mpb_spec.proofs.Lists.{sum_set, each_set, All_map, ones_le, sum_none, count_all}
+use Rattle.mpb_latch.proofs.Sums.{over-le_all}
+use Rattle.mpb_spec.proofs.Logs.{news-le-hits, hits-le-planned}
+use Rattle.mpb_latch.proofs.Pulses.{over-le}
 
 -- only who has which device and collector has changed
 module _ (ios : ℕ) (plans : Plans) (s : State (Unit {0}) SeatView) (views : List SeatView) (ok : IsBalanced ios plans s)
@@ -100,14 +101,6 @@ first_is v h = by_list v.devices h
     by_list (x ∷ xs) h = refl
 
 -- where one view has all devices, nobody else has any
-sum_none : {A : Type 0} (f : A → ℕ) (xs : List A) → length xs ≡ 0 → sum_by f xs ≡ 0
-sum_none f [] e = refl
-sum_none f (x ∷ xs) e = absurd (omega arith)
-
-count_all : {A : Type 0} (xs : List A) → sum_by (λ (_ : A). 1) xs ≡ length xs
-count_all [] = refl
-count_all {A} (x ∷ xs) = (let s = count_all xs in omega (arith, sum_by-cons (λ (_ : A). 1) x xs))
-
 module _ {A : Type 0} (part : SeatView → List A) (f : A → ℕ) where
   none_else : (views : List SeatView) → sum_by (λ v. sum_by (λ (_ : A). 1) (part v)) views ≡ 0 → sum_by (λ v. sum_by f (part v)) views ≡ 0
   none_else [] e = refl
@@ -133,10 +126,6 @@ all_ended : (devs : List DeviceView) → sum_by (λ (d : DeviceView). one_if d.e
 all_ended [] e = All-nil (λ (d : DeviceView). d.ended ≡ true)
 all_ended (d ∷ ds) e = by_mark d.ended refl (le ds) (all_ended ds)
   where
-    ones_le : (b : Bool) → one_if b ≤ 1
-    ones_le true = omega arith
-    ones_le false = omega arith
-
     sums : sum_by (λ (x : DeviceView). one_if x.ended) (d ∷ ds) ≡ one_if d.ended + sum_by (λ (x : DeviceView). one_if x.ended) ds
     sums = sum_by-cons (λ (x : DeviceView). one_if x.ended) d ds
 

@@ -13,12 +13,13 @@ use Rattle.atomic_table.specs.Table.{State}
 use Rattle.mpb_latch.specs.declared.view.DeviceView.{DeviceView}
 use Rattle.mpb_latch.specs.declared.view.CollectorView.{CollectorView}
 use Rattle.mpb_latch.specs.declared.view.SeatView.{SeatView}
-use Rattle.mpb_latch.specs.Pulses.{planned_in, new_hits_in, with_pins_from}
-use Rattle.mpb_latch.specs.Rule.{one_if, hits, starts}
+use Rattle.mpb_spec.specs.Pulses.{planned_in, new_hits_in, with_pins_from, hits, starts}
+use Rattle.mpb_spec.specs.Lists.{one_if}
 use Rattle.mpb_latch.specs.Rule.{Plans, device, collector, after_end, after_collect, after_look, count_at, DeviceFits, CollectorFits, IsBalanced}
-use Rattle.mpb_latch.proofs.Sums.{set_at, each_set, device_step, device_leaves_collectors, collector_step, collector_at, collector_leaves_devices, over-le_all}
-use Rattle.mpb_latch.proofs.Logs.{news-le-hits, hits-le-planned, add_at, length-add}
-use Rattle.mpb_latch.proofs.Pulses.{All_map, not_full, over-le, ones_le}
+use Rattle.mpb_spec.proofs.Lists.{set_at, each_set, All_map, ones_le}
+use Rattle.mpb_latch.proofs.Sums.{device_step, device_leaves_collectors, collector_step, collector_at, collector_leaves_devices, over-le_all}
+use Rattle.mpb_spec.proofs.Logs.{news-le-hits, hits-le-planned, add_at, length-add}
+use Rattle.mpb_latch.proofs.Pulses.{not_full, over-le}
 
 module _ (ios : ℕ) (plans : Plans) (s : State (Unit {0}) SeatView) (id : ℕ) (ok : IsBalanced ios plans s) where
   module _ (d : DeviceView) (at : get_elem? s.views id ≡ some (device d)) (going : d.ended ≡ false) (done : length d.log ≡ length d.plan) where

@@ -11,27 +11,21 @@ use Rattle.std.proofs.lemmas.List.{get_or-set_other, get_or-set_same}
 use Rattle.std.proofs.lemmas.List.Sums.{sum_by_push, sum_by-le-sum_by}
 use Rattle.std.specs.Int.{bit_at}
 use Rattle.atomic_table.specs.Table.{State}
-use Rattle.mpb_latch.specs.declared.pulse.Pulse.{Pulse}
-use Rattle.mpb_latch.specs.declared.pulse.Hit.{Hit}
+use Rattle.mpb_spec.specs.declared.pulse.Pulse.{Pulse}
+use Rattle.mpb_spec.specs.declared.pulse.Hit.{Hit}
 use Rattle.mpb_latch.specs.declared.view.DeviceView.{DeviceView}
 use Rattle.mpb_latch.specs.declared.view.CollectorView.{CollectorView}
 use Rattle.mpb_latch.specs.declared.view.SeatView.{SeatView}
-use Rattle.mpb_latch.specs.Pulses.{is_on, is_new, planned_in, new_hits_in, hit_of}
-use Rattle.mpb_latch.specs.Rule.{one_if, hits, starts}
+use Rattle.mpb_spec.specs.Pulses.{is_on, is_new, planned_in, new_hits_in, hit_of, hits, starts}
+use Rattle.mpb_spec.specs.Lists.{one_if}
 use Rattle.mpb_latch.specs.Rule.{Plans, no_pulse, device, next_of, after_pulse, after_end, over_devices, over_collectors, count_at, DeviceFits, CollectorFits, IsBalanced}
-use Rattle.mpb_latch.proofs.Sums.{each_set, device_step, device_at, device_leaves_collectors}
-use Rattle.mpb_latch.proofs.Logs.{mark, on_gives, follows_next, news-le-hits, starts-le-push, starts-push_first, off_io, bit_step, new_at_zero}
-
-pub All_map : {X : Type 0} (P Q : X → Type 0) (xs : List X) → ((x : X) → P x → Q x) → All P xs → All Q xs
-All_map P Q xs h all k d l = h (get_or xs k d) (all k d l)
+use Rattle.mpb_spec.proofs.Lists.{each_set, ones_le, All_map}
+use Rattle.mpb_latch.proofs.Sums.{device_step, device_at, device_leaves_collectors}
+use Rattle.mpb_spec.proofs.Logs.{mark, on_gives, follows_next, news-le-hits, starts-le-push, starts-push_first, off_io, bit_step, new_at_zero}
 
 not_true : (b : Bool) → ¬ (b ≡ true) → b ≡ false
 not_true true n = absurd (n refl)
 not_true false n = refl
-
-pub ones_le : (b : Bool) → one_if b ≤ 1
-ones_le true = omega arith
-ones_le false = omega arith
 
 pub over-le : (f g : DeviceView → ℕ) (views : List SeatView) → ((d : DeviceView) → f d ≤ g d) → over_devices f views ≤ over_devices g views
 over-le f g views h = sum_by-le-sum_by (λ (v : SeatView). sum_by f v.devices) (λ (v : SeatView). sum_by g v.devices) views (λ v. sum_by-le-sum_by f g v.devices h)

@@ -8,24 +8,7 @@ use Rattle.mpb_latch.specs.declared.view.DeviceView.{DeviceView}
 use Rattle.mpb_latch.specs.declared.view.CollectorView.{CollectorView}
 use Rattle.mpb_latch.specs.declared.view.SeatView.{SeatView}
 use Rattle.mpb_latch.specs.Rule.{device, collector, over_devices, over_collectors}
-
-pub sum_set : {A : Type 0} (f : A → ℕ) (xs : List A) (i : ℕ) (x y : A) → get_elem? xs i ≡ some x → sum_by f (set xs i y) + f x ≡ sum_by f xs + f y
-sum_set f [] i x y e = absurd (some-ne-none x (sym e))
-sum_set f (a ∷ xs) zero x y e = let s = ap f (some-injective a x e) in omega (arith, sum_by-cons f y xs, sum_by-cons f a xs)
-sum_set f (a ∷ xs) (suc i) x y e = let s = sum_set f xs i x y e in omega (arith, sum_by-cons f a (set xs i y), sum_by-cons f a xs)
-
-pub sum_at : {A : Type 0} (f : A → ℕ) (xs : List A) (i : ℕ) (x : A) → get_elem? xs i ≡ some x → f x ≤ sum_by f xs
-sum_at f [] i x e = absurd (some-ne-none x (sym e))
-sum_at f (a ∷ xs) zero x e = let s = ap f (some-injective a x e) in omega (arith, sum_by-cons f a xs)
-sum_at f (a ∷ xs) (suc i) x e = let s = sum_at f xs i x e in omega (arith, sum_by-cons f a xs)
-
-pub set_at : {A : Type 0} (xs : List A) (i : ℕ) (x y : A) → get_elem? xs i ≡ some x → get_elem? (set xs i y) i ≡ some y
-set_at [] i x y e = absurd (some-ne-none x (sym e))
-set_at (a ∷ xs) zero x y e = refl
-set_at (a ∷ xs) (suc i) x y e = set_at xs i x y e
-
-pub each_set : {A : Type 0} (Q : A → Type 0) (xs : List A) (i : ℕ) (y : A) → ((j : ℕ) (u : A) → get_elem? xs j ≡ some u → Q u) → Q y → (j : ℕ) (u : A) → get_elem? (set xs i y) j ≡ some u → Q u
-each_set Q xs i y others mine j u e = ⊎_elim (λ t. subst Q t.1 mine) (λ t. others j u t.1) (at_set xs i j y u e)
+use Rattle.mpb_spec.proofs.Lists.{sum_set, sum_at}
 
 module _ (views : List SeatView) (id : ℕ) where
   pub device_step : (f : DeviceView → ℕ) (d d' : DeviceView) → get_elem? views id ≡ some (device d) → over_devices f (set views id (device d')) + f d ≡ over_devices f views + f d'

@@ -1,4 +1,2 @@
-pub mod Pulses
-pub mod PlainLatch
 pub mod Seats
 pub mod Rule

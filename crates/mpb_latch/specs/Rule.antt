@@ -7,12 +7,13 @@ use mathlib.Core.Option.{some}
 use lib.ListN.{get_elem?}
 use Rattle.atomic_table.specs.Seated.{TableId}
 use Rattle.atomic_table.specs.Table.{State, Me, Step}
-use Rattle.mpb_latch.specs.declared.pulse.Pulse.{Pulse}
-use Rattle.mpb_latch.specs.declared.pulse.Hit.{Hit}
+use Rattle.mpb_spec.specs.declared.pulse.Pulse.{Pulse}
+use Rattle.mpb_spec.specs.declared.pulse.Hit.{Hit}
 use Rattle.mpb_latch.specs.declared.view.DeviceView.{DeviceView}
 use Rattle.mpb_latch.specs.declared.view.CollectorView.{CollectorView}
 use Rattle.mpb_latch.specs.declared.view.SeatView.{SeatView}
-use Rattle.mpb_latch.specs.Pulses.{is_on, is_new, planned_in, new_hits_in, FollowsPlan, hit_of, with_pins_from}
+use Rattle.mpb_spec.specs.Lists.{one_if, rest_of, first_of_list}
+use Rattle.mpb_spec.specs.Pulses.{planned_in, new_hits_in, FollowsPlan, hit_of, with_pins_from, hits, starts}
 use Rattle.mpb_latch.specs.Seats.{DeviceSeat, CollectorSeat}
 
 abbrev pub Plans : Type 0
@@ -95,14 +96,6 @@ abbrev pub Looks : Step (Unit {0}) → Sat → ℕ → Sat → Type 0
 Looks st m n m' = m' ≡ (collector (after_look (n == length (collector_of m.0).plans) (collector_of m.0)), m.1)
 
 -- the two parts of a view that is cut behind its first device, or behind its first collector
-abbrev pub rest_of : {A : Type 0} → List A → List A
-rest_of [] = []
-rest_of (x ∷ xs) = xs
-
-abbrev pub first_of_list : {A : Type 0} → List A → List A
-first_of_list [] = []
-first_of_list (x ∷ xs) = x ∷ []
-
 abbrev pub without_device : SeatView → SeatView
 without_device v = record { devices = rest_of v.devices; collectors = v.collectors }
 
@@ -131,19 +124,6 @@ fresh_collectors ios plans = map (fresh_collector plans) (range_with_len 0 ios)
 
 abbrev pub opening_view : ℕ → Plans → SeatView
 opening_view ios plans = record { devices = map fresh_device plans; collectors = fresh_collectors ios plans }
-
--- 1 where the test holds
-abbrev pub one_if : Bool → ℕ
-one_if b = if b then 1 else 0
-
--- how many hits on the pin a log has
-abbrev pub hits : ℕ → ℕ → List (Pulse × Hit) → ℕ
-hits io pin log = count_by (λ x. is_on io pin x.0) log
-
--- 1 where the log's first hit on the pin is New
-abbrev pub starts : ℕ → ℕ → List (Pulse × Hit) → ℕ
-starts io pin [] = 0
-starts io pin (x ∷ xs) = if is_on io pin x.0 then one_if (is_new x.1) else starts io pin xs
 
 -- something of each device, or of each collector, added up over all views
 abbrev pub over_devices : (DeviceView → ℕ) → List SeatView → ℕ

@@ -1,8 +1,8 @@
 -- What a shared latch and its seats show to their callers: this project's own.
 use Rattle.std.specs.Prelude.{ℕ, Bool, false, List, [], replicate}
 use Rattle.atomic_table.specs.Seated.{TableId}
-use Rattle.mpb_latch.specs.declared.pulse.Pulse.{Pulse}
-use Rattle.mpb_latch.specs.declared.pulse.Hit.{Hit}
+use Rattle.mpb_spec.specs.declared.pulse.Pulse.{Pulse}
+use Rattle.mpb_spec.specs.declared.pulse.Hit.{Hit}
 
 -- a latch: which one it is, how many I/O APICs it has, and the plan of each device
 pub record SharedLatch : Type 0 where

@@ -1,19 +1,8 @@
-//! What is left of a latch at its end.
+//! Counts of collected pins.
 
 ghost use Rattle.std.specs.Prelude.{◌≡◌, ◌<◌, ◌^◌, ◌+◌, ℕ, length, slice_index};
 ghost use Rattle.std.specs.Int.{bit_at};
-ghost use Rattle.mpb_latch.specs.Pulses.{with_pins};
-
-use crate::pulse::{Hit, Pulse};
-
-/// What the devices pulsed, and what was collected.
-#[derive(Drop)]
-pub struct Account {
-    /// For each device its pulses in order, each with its answer.
-    pub logs: Vec<Vec<(Pulse, Hit)>>,
-    /// For each I/O APIC how often each of its 24 pins was collected.
-    pub collected: Vec<Vec<u32>>,
-}
+ghost use Rattle.mpb_spec.specs.Pulses.{with_pins};
 
 /// Counts these pins of an I/O APIC, bit n for pin n, as collected once more. There are 24 counts.
 pub fn add_pins(counts: &mut [u32], pins: u32)

@@ -2,15 +2,15 @@
 
 ghost use Rattle.std.specs.Prelude.{◌≡◌, ◌<◌, ◌≤◌, ◌++◌, [], ℕ, true, length, vec_capacity, map, All, sum_by, slice_index, slice_index_or};
 ghost use Rattle.std.specs.List.{range_with_len};
-ghost use Rattle.mpb_latch.specs.Pulses.{planned};
-ghost use Rattle.mpb_latch.specs.Rule.{DeviceFits, SettlesAt, hits, starts, nobody, no_collector, together, device, collector, known_device, known_collector};
+ghost use Rattle.mpb_spec.specs.Pulses.{planned, hits, starts};
+ghost use Rattle.mpb_latch.specs.Rule.{DeviceFits, SettlesAt, nobody, no_collector, together, device, collector, known_device, known_collector};
 
 use crate::opening::Words;
-use crate::pulse::{Hit, Pulse};
 use crate::rule::{Enters, Together};
 use crate::seat::{ColSeat, DevSeat};
 use crate::view::SeatView;
 use atomic_table::Seat;
+use mpb_spec::{Hit, Pulse};
 
 /// A seat that has no device and no collector. The first seat can't be kept for this, since a seat
 /// isn't `Sync` and the latch is.
@@ -59,6 +59,7 @@ fn take_collector(table: &Words, all: &mut Seat<(), SeatView>, seat: ColSeat) ->
     requires table { (all.old.table_id ≡ table.now.shared.table_id) × (seat.latch ≡ table.now.shared.table_id) × (0 < table.now.shared.table_id.words) }
     ensures taken { (all.new.table_id ≡ all.old.table_id) × (all.new.me ≡ (together all.old.me.0 (collector (known_collector seat)), all.old.me.1)) }
     ensures counts { result.items ≡ seat.counts }
+    ensures wide { length result.items ≡ 24 }
 {
     let ColSeat {
         seat,
@@ -81,6 +82,7 @@ fn take_collectors(
     requires room { (collected.items ≡ []) × (length seats.items ≤ vec_capacity collected) }
     ensures all { (all.new.table_id ≡ all.old.table_id) × (all.new.me.1 ≡ all.old.me.1) × (all.new.me.0.devices ≡ all.old.me.0.devices ++ []) × (all.new.me.0.collectors ≡ all.old.me.0.collectors ++ map known_collector seats.items) }
     ensures counts { map (λ l. l.items) result.items ≡ map (λ s. s.counts) seats.items }
+    ensures wide { All (λ l. length l.items ≡ 24) result.items }
 {
     for seat in seats {
         let counts = take_collector(table, all, seat);
@@ -108,6 +110,7 @@ pub(crate) fn take_all(
     ensures collectors { result.0.me.0.collectors ≡ map known_collector cols.items }
     ensures logs { map (λ l. l.items) result.1.items ≡ map (λ s. s.log) seats.items }
     ensures counts { map (λ l. l.items) result.2.items ≡ map (λ c. c.counts) cols.items }
+    ensures wide { All (λ l. length l.items ≡ 24) result.2.items }
 {
     let mut all = empty_seat(table);
     let logs = take_devices(table, &mut all, seats, logs);

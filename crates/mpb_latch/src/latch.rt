@@ -3,16 +3,16 @@
 ghost use Rattle.std.specs.Prelude.{◌≡◌, ◌<◌, ◌≤◌, ◌^◌, ◌+◌, ◌++◌, ◌∷◌, ◌||◌, ◌&&◌, ◌==◌, ◌⊎◌, [], ℕ, true, false, length, slice_index, slice_index_or, slice_get, vec_len, vec_capacity, IfOk, IsSome, Some, map, All, Any, sum_by};
 ghost use Rattle.std.specs.List.{range_with_len};
 ghost use Rattle.std.specs.Int.{bit_at};
-ghost use Rattle.mpb_latch.specs.declared.pulse.Hit.TheVariants.{New};
-ghost use Rattle.mpb_latch.specs.Pulses.{IsInRange, FollowsPlan, counts_of, first_hit, hit_of, logs_of, new_hits, planned, pulses_of, with_pins, with_pins_from};
+ghost use Rattle.mpb_spec.specs.declared.pulse.Hit.TheVariants.{New};
+ghost use Rattle.mpb_spec.specs.Pulses.{HasCountsFor, IsInRange, FollowsPlan, counts_of, first_hit, hit_of, logs_of, new_hits, planned, pulses_of, with_pins, with_pins_from};
 ghost use Rattle.mpb_latch.specs.Seats.{fresh_device_seat, fresh_collector_seat};
 
-use crate::account::{Account, add_pins};
+use crate::account::add_pins;
 use crate::closing::{settle, take_all};
 use crate::opening::{Words, collector_seats, copied, device_seats, open_words};
-use crate::pulse::{Hit, Pulse};
 use crate::rule::{Collected, Ended, Looked, Pulsed};
 use crate::seat::{ColSeat, DevSeat};
+use mpb_spec::{Account, Hit, Pulse};
 use mpt_base::NoMemory;
 use std::alloc::Global;
 use std::marker::Model;
@@ -149,6 +149,7 @@ impl Latch {
         requires collectors { (map (λ c. c.io) cols.items ≡ range_with_len 0 self.ios) × All (λ c. c.latch ≡ self.latch) cols.items }
         ensures logs { logs_of result ≡ map (λ s. s.log) seats.items }
         ensures counts { counts_of result ≡ map (λ c. c.counts) cols.items }
+        ensures shape { HasCountsFor self.ios result }
         ensures plans { All (λ s. FollowsPlan s.log s.plan × (s.ended ≡ true → pulses_of s.log ≡ s.plan)) seats.items }
         ensures new_hits { (io pin : ℕ) → io < self.ios → pin < 24 → let count = slice_index (slice_index_or (counts_of result) io []) pin in (new_hits io pin (logs_of result) ≡ count) ⊎ (new_hits io pin (logs_of result) ≡ count + 1) }
         ensures dry { All (λ c. c.dry ≡ true → (pin : ℕ) → pin < 24 → new_hits c.io pin (logs_of result) ≡ slice_index c.counts pin) cols.items }

@@ -9,14 +9,13 @@ mod closing;
 mod latch;
 mod opening;
 mod plain;
-mod pulse;
 mod rule;
 mod seat;
 mod threads;
 mod view;
 
-pub use account::{Account, add_pins};
+pub use account::add_pins;
 pub use latch::Latch;
+pub use mpb_spec::{Account, Hit, Pulse};
 pub use plain::PlainLatch;
-pub use pulse::{Hit, Pulse};
 pub use seat::{ColSeat, DevSeat};

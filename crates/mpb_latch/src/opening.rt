@@ -5,11 +5,11 @@ ghost use Rattle.std.specs.List.{range_with_len};
 ghost use Rattle.mpb_latch.specs.Seats.{fresh_device_seat, fresh_collector_seat};
 ghost use Rattle.mpb_latch.specs.Rule.{fresh_device, fresh_collectors, opening_view, without_device, without_collector, device_of, collector_of, shown_device, shown_collector};
 
-use crate::pulse::{Hit, Pulse};
 use crate::rule::{Balance, OneCollector, OneDevice, Plans};
 use crate::seat::{ColSeat, DevSeat};
 use crate::view::SeatView;
 use atomic_table::{Seat, Table};
+use mpb_spec::{Hit, Pulse};
 use mpt_base::NoMemory;
 use std::alloc::Global;
 use std::snapshot::Snapshot;

@@ -2,10 +2,10 @@
 
 ghost use Rattle.std.specs.Prelude.{◌≡◌, ◌+◌, ◌<◌, ◌≤◌, ◌^◌, ◌↔◌, ℕ, length, IsTrue, if◌then◌else◌};
 ghost use Rattle.std.specs.Int.{bit_at};
-ghost use Rattle.mpb_latch.specs.Pulses.{hit_of, is_on};
-ghost use Rattle.mpb_latch.specs.PlainLatch.{collected, empty_latch, pins_at, pulsed};
+ghost use Rattle.mpb_spec.specs.Pulses.{hit_of, is_on};
+ghost use Rattle.mpb_spec.specs.PlainLatch.{collected, empty_latch, pins_at, pulsed};
 
-use crate::pulse::{Hit, Pulse};
+use mpb_spec::{Hit, Pulse};
 use std::marker::Model;
 
 /// A latch of one thread. Contracts see, for each I/O APIC, the set of its latched pins as a number
@@ -20,7 +20,7 @@ pub struct PlainLatch {
 
 impl Model for PlainLatch {
     ghost use Rattle.std.specs.Prelude.{◌≡◌, ◌<◌, ◌≤◌, ◌^◌, All, length, take};
-    ghost use Rattle.mpb_latch.specs.PlainLatch.{PlainState};
+    ghost use Rattle.mpb_spec.specs.PlainLatch.{PlainState};
 
     ghost Value = { PlainState };
 

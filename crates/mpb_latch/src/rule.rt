@@ -1,8 +1,8 @@
 //! The rule of the shared latch, and what its steps tell (docs/THREADS.md).
 
-use crate::pulse::Pulse;
 use crate::view::SeatView;
 use atomic_table::{Join, Play, Split, TableRule};
+use mpb_spec::Pulse;
 use std::snapshot::Snapshot;
 
 /// The rule of the latch: its account balances whenever a word changes.

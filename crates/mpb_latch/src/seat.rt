@@ -1,9 +1,9 @@
 //! The seats of a shared latch: one for each device and one for the collector of each I/O APIC. A
 //! seat may be moved to any thread. What it knows is its own: no other seat's step changes it.
 
-use crate::pulse::{Hit, Pulse};
 use crate::view::SeatView;
 use atomic_table::Seat;
+use mpb_spec::{Hit, Pulse};
 use std::marker::Model;
 
 /// A device's seat. Contracts see which latch it belongs to, the device's plan, its log and whether
@@ -16,7 +16,7 @@ pub struct DevSeat {
 
 impl Model for DevSeat {
     ghost use Rattle.std.specs.Prelude.{◌≡◌, ◌<◌, ◌≤◌, ◌+◌, [], All, length, vec_capacity};
-    ghost use Rattle.mpb_latch.specs.Pulses.{FollowsPlan};
+    ghost use Rattle.mpb_spec.specs.Pulses.{FollowsPlan};
     ghost use Rattle.mpb_latch.specs.Seats.{DeviceSeat};
     ghost use Rattle.mpb_latch.specs.Rule.{device, device_of, shown_device};
 

@@ -1,7 +1,7 @@
 //! What the seats of a shared latch know. No value of these types is made: they stand in the rule of
 //! the latch alone.
 
-use crate::pulse::{Hit, Pulse};
+use mpb_spec::{Hit, Pulse};
 use std::collections::LinkedList;
 
 /// What is known of a device: its plan, the pulses that it made with their answers, and whether it

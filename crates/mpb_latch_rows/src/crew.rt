@@ -1,7 +1,7 @@
 //! The workers of a shared latch, each in a thread of its own.
 ghost use Rattle.std.specs.Prelude.{◌≡◌, ◌<◌, ◌≤◌, ◌^◌, ℕ, true, length, map, All, slice_index_or, sum_by};
 ghost use Rattle.std.specs.Thread.{IsSync};
-ghost use Rattle.mpb_latch.specs.Pulses.{IsInRange};
+ghost use Rattle.mpb_spec.specs.Pulses.{IsInRange};
 ghost use Rattle.mpb_latch.specs.Seats.{fresh_device_seat};
 
 use mpb_latch::{Account, ColSeat, DevSeat, Latch, Pulse};

@@ -1,7 +1,7 @@
 //! Devices in threads of their own beside collectors in theirs: whatever the schedule, what is New
 //! was collected.
 ghost use Rattle.std.specs.Prelude.{◌≡◌, length, All, IfOk, vec_len, sum_by};
-ghost use Rattle.mpb_latch.specs.Pulses.{IsInRange};
+ghost use Rattle.mpb_spec.specs.Pulses.{IsInRange};
 
 use crate::crew::account_of;
 use mpb_latch::{Account, Hit, Pulse};

@@ -1,6 +1,6 @@
 //! Shared latches for tests, with their seats in hand.
 ghost use Rattle.std.specs.Prelude.{◌≡◌, [], ◌∷◌, length, IfOk};
-ghost use Rattle.mpb_latch.specs.Pulses.{IsInRange};
+ghost use Rattle.mpb_spec.specs.Pulses.{IsInRange};
 ghost use Rattle.mpb_latch.specs.Seats.{fresh_device_seat, fresh_collector_seat};
 
 use mpb_latch::{Account, ColSeat, DevSeat, Latch, Pulse};

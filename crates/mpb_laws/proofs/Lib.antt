@@ -5,5 +5,6 @@ pub mod RoomSum
 pub mod RoomBound
 pub mod RequestLemmas
 pub mod StepAccounts
+pub mod ModelLemmas
 pub mod JournalLemmas
 pub mod PartsStay

@@ -5,12 +5,13 @@ use Rattle.mpb_spec.specs.declared.agent.Agent.TheVariants.{Cpu, Io, Dev}
 use Rattle.mpb_spec.specs.declared.agent.Op.{Op}
 use Rattle.mpb_spec.specs.declared.agent.Op.TheVariants as op
 use Rattle.mpb_spec.specs.declared.apic.Message.{Message}
+use Rattle.mpb_spec.specs.declared.apic.Aim.{Aim}
 use Rattle.mpb_spec.specs.declared.apic.Delivery.{Delivery}
 use Rattle.mpb_spec.specs.declared.config.DevWord.{DevWord}
 use Rattle.mpb_spec.specs.declared.entry.Entry.{Entry}
 use Rattle.mpb_spec.specs.IoApic.{written, change_pin, with_line, with_sent, with_eoi}
 use Rattle.mpb_spec.specs.State.{Place, Device, BoardState, processor_of, change_at}
-use Rattle.mpb_spec.specs.Steps.{after, effect_of_cpu, with_chip, with_pins_of, ended_at_places, level_end, collected, sent_message, deliver_kind, kind_of, due_at, was_accepted, send_outcomes}
+use Rattle.mpb_spec.specs.Steps.{after, effect_of_cpu, with_chip, with_pins_of, ended_at_places, level_end, collected, sent_message, deliver_kind, kind_of, aim_of, due_at, was_accepted, send_outcomes}
 use Rattle.mpb_spec.specs.Plan.{Plan, initial_state_of, first_places, first_device}
 use Rattle.mpb_spec.specs.Journal.{after_entry, final_state_of}
 use Rattle.mpb_laws.proofs.StepAccounts.{run-ids, first-ids}
@@ -45,13 +46,13 @@ places-stay (Io a) (op.Send pin) s = sends-keep a (due_at a s) s
 places-stay (Io a) op.Sweep s = change-keeps (λ p. record p { swept = true }) a s.places
 places-stay (Io a) o s = refl
 
-kind-devices : (dest : ℕ) (k : Option Delivery) (s : BoardState) → (deliver_kind dest k s).devices ≡ s.devices
-kind-devices dest None s = refl
-kind-devices dest (Some m) s = refl
+kind-devices : (aim : Aim) (k : Option Delivery) (s : BoardState) → (deliver_kind aim k s).devices ≡ s.devices
+kind-devices aim None s = refl
+kind-devices aim (Some m) s = refl
 
 send-devices : (a : ℕ) (m : Option Message) (s : BoardState) → (sent_message a m s).devices ≡ s.devices
 send-devices a None s = refl
-send-devices a (Some m) s = kind-devices m.dest (kind_of m) s
+send-devices a (Some m) s = kind-devices (aim_of m) (kind_of m) s
 
 cpu-devices : (id : ℕ) (o : Op) (s : BoardState) → (effect_of_cpu id o s).devices ≡ s.devices
 cpu-devices id op.Imcr s = refl

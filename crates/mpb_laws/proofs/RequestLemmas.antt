@@ -15,7 +15,7 @@ use Rattle.mpb_spec.specs.declared.config.Life.TheVariants as life
 use Rattle.mpb_spec.specs.Numbers.{has, with_number, without, greatest, IsAscending}
 use Rattle.mpb_spec.specs.LocalApic.{LocalApic, acceptance, accepted, taken, taken_from, next_vector, above, ppr}
 use Rattle.mpb_spec.specs.State.{Processor, runs, processor_of, change_processor}
-use Rattle.mpb_spec.specs.Delivery.{is_target, delivered_to, received, answer, outcome_at, outcomes_at, unless_absent, outcome_of_accept, init_outcome, start_outcome, startup_outcome}
+use Rattle.mpb_spec.specs.Delivery.{delivered_to, received, answer, outcome_at, outcomes_at, unless_absent, outcome_of_accept, init_outcome, start_outcome, startup_outcome}
 use Rattle.mpb_spec.specs.Steps.{with_apic}
 use Rattle.mpb_spec.specs.Outcomes.{what_taken, taken_by}
 use Rattle.mpb_spec.specs.Requests.{is_set, is_taken, sets_at}
@@ -201,9 +201,9 @@ count-none {Y = Y} g h (x ∷ xs) no' =
     (omega (arith, ap (λ b. cond {A = ℕ} b 1 0) (no' x), count-none g h xs no'))
 
 -- the Absent outcome of a message without a target counts none
-pub takes-at : (v : ℕ) (warm : Option ℕ) (all dest : ℕ) (m : Delivery) (ps : List Processor) → count_by (λ (o : Outcome). is_taken v o.what) (outcomes_at warm all dest m ps) ≡ 0
-takes-at v warm all dest m ps =
-    unless (map (outcome_at warm m) (filter (is_target all dest) ps)) (count-none (λ (o : Outcome). is_taken v o.what) (outcome_at warm m) (filter (is_target all dest) ps) (answer-no-take v warm m)) where
+pub takes-at : (v : ℕ) (warm : Option ℕ) (test : Processor → Bool) (dest : ℕ) (m : Delivery) (ps : List Processor) → count_by (λ (o : Outcome). is_taken v o.what) (outcomes_at warm test dest m ps) ≡ 0
+takes-at v warm test dest m ps =
+    unless (map (outcome_at warm m) (filter test ps)) (count-none (λ (o : Outcome). is_taken v o.what) (outcome_at warm m) (filter test ps) (answer-no-take v warm m)) where
       unless : (os : List Outcome) → count_by (λ (o : Outcome). is_taken v o.what) os ≡ 0 → count_by (λ (o : Outcome). is_taken v o.what) (unless_absent dest os) ≡ 0
       unless [] h = refl
       unless (o ∷ os) h = h
@@ -216,10 +216,10 @@ sets-unless : (d dest : ℕ) (os : List Outcome) → sets_at d (unless_absent de
 sets-unless d dest [] = elim (dest == d) as (λ b. sum (cond {A = ℕ} (b && false) 1 0 ∷ []) ≡ 0) [ true ↦ refl | false ↦ refl ]
 sets-unless d dest (o ∷ os) = refl
 
-plain-sets : (d all dest : ℕ) (warm : Option ℕ) (m : Delivery) (ps : List Processor) → IsPlain m → sets_at d (outcomes_at warm all dest m ps) ≡ 0
-plain-sets d all dest warm m ps plain =
-    sets-unless d dest (map (outcome_at warm m) (filter (is_target all dest) ps))
-    ∙ count-none (λ (o : Outcome). (o.at == d) && is_set o.what) (outcome_at warm m) (filter (is_target all dest) ps) (λ p. and-none (p.id == d) (is_set (answer warm m p)) (answer-none is_set warm m p no-sets plain))
+plain-sets : (d : ℕ) (test : Processor → Bool) (dest : ℕ) (warm : Option ℕ) (m : Delivery) (ps : List Processor) → IsPlain m → sets_at d (outcomes_at warm test dest m ps) ≡ 0
+plain-sets d test dest warm m ps plain =
+    sets-unless d dest (map (outcome_at warm m) (filter test ps))
+    ∙ count-none (λ (o : Outcome). (o.at == d) && is_set o.what) (outcome_at warm m) (filter test ps) (λ p. and-none (p.id == d) (is_set (answer warm m p)) (answer-none is_set warm m p no-sets plain))
 
 -- one target of a fixed message: Set exactly where the vector is requested newly
 one-target : (d v : ℕ) (level : Bool) (p : Processor) → cond {A = ℕ} ((p.id == d) && is_set (outcome_of_accept (acceptance v p.apic))) 1 0 + cond {A = ℕ} ((p.id == d) && has v p.apic.irr) 1 0 ≡ cond {A = ℕ} ((p.id == d) && has v (accepted v level p.apic).irr) 1 0
@@ -234,25 +234,25 @@ one-target d v level p = go (p.id == d) (nat_lt v 16) (has v p.apic.irr) refl wh
   go true false false e = rw (has-with_itself v p.apic.irr) refl
 
 -- each processor after a fixed message: the Set outcomes are the requests that are new
-fixed-requests : (d v all dest : ℕ) (level : Bool) (warm : Option ℕ) (ps : List Processor)
-    → sets_at d (map (outcome_at warm (sends.Fixed v level)) (filter (is_target all dest) ps)) + requests d v ps ≡ requests d v (map (delivered_to warm all dest (sends.Fixed v level)) ps)
-fixed-requests d v all dest level warm [] = refl
-fixed-requests d v all dest level warm (p ∷ ps) =
-    let rest = fixed-requests d v all dest level warm ps in
-    rw (sum_by-cons (λ (q : Processor). cond {A = ℕ} ((q.id == d) && has v q.apic.irr) 1 0) p ps, sum_by-cons (λ (q : Processor). cond {A = ℕ} ((q.id == d) && has v q.apic.irr) 1 0) (delivered_to warm all dest (sends.Fixed v level) p) (map (delivered_to warm all dest (sends.Fixed v level)) ps))
-    (go (is_target all dest p) (runs p.life) rest) where
+fixed-requests : (d v : ℕ) (test : Processor → Bool) (level : Bool) (warm : Option ℕ) (ps : List Processor)
+    → sets_at d (map (outcome_at warm (sends.Fixed v level)) (filter test ps)) + requests d v ps ≡ requests d v (map (delivered_to warm test (sends.Fixed v level)) ps)
+fixed-requests d v test level warm [] = refl
+fixed-requests d v test level warm (p ∷ ps) =
+    let rest = fixed-requests d v test level warm ps in
+    rw (sum_by-cons (λ (q : Processor). cond {A = ℕ} ((q.id == d) && has v q.apic.irr) 1 0) p ps, sum_by-cons (λ (q : Processor). cond {A = ℕ} ((q.id == d) && has v q.apic.irr) 1 0) (delivered_to warm test (sends.Fixed v level) p) (map (delivered_to warm test (sends.Fixed v level)) ps))
+    (go (test p) (runs p.life) rest) where
       none : (i : Bool) → cond {A = ℕ} (i && false) 1 0 ≡ 0
       none true = refl
       none false = refl
 
-      go : (t r : Bool) → sets_at d (map (outcome_at warm (sends.Fixed v level)) (filter (is_target all dest) ps)) + requests d v ps ≡ requests d v (map (delivered_to warm all dest (sends.Fixed v level)) ps)
-          → sets_at d (map (outcome_at warm (sends.Fixed v level)) (cond t (p ∷ filter (is_target all dest) ps) (filter (is_target all dest) ps))) + (cond {A = ℕ} ((p.id == d) && has v p.apic.irr) 1 0 + requests d v ps)
-          ≡ cond {A = ℕ} (((cond t (cond (runs p.life) (record p { apic = accepted v level p.apic }) p) p).id == d) && has v (cond t (cond (runs p.life) (record p { apic = accepted v level p.apic }) p) p).apic.irr) 1 0 + requests d v (map (delivered_to warm all dest (sends.Fixed v level)) ps)
+      go : (t r : Bool) → sets_at d (map (outcome_at warm (sends.Fixed v level)) (filter test ps)) + requests d v ps ≡ requests d v (map (delivered_to warm test (sends.Fixed v level)) ps)
+          → sets_at d (map (outcome_at warm (sends.Fixed v level)) (cond t (p ∷ filter test ps) (filter test ps))) + (cond {A = ℕ} ((p.id == d) && has v p.apic.irr) 1 0 + requests d v ps)
+          ≡ cond {A = ℕ} (((cond t (cond (runs p.life) (record p { apic = accepted v level p.apic }) p) p).id == d) && has v (cond t (cond (runs p.life) (record p { apic = accepted v level p.apic }) p) p).apic.irr) 1 0 + requests d v (map (delivered_to warm test (sends.Fixed v level)) ps)
       go false r h = omega (arith, h)
       go true r h =
-          rw (sum_by-cons (λ (o : Outcome). cond {A = ℕ} ((o.at == d) && is_set o.what) 1 0) (outcome_at warm (sends.Fixed v level) p) (map (outcome_at warm (sends.Fixed v level)) (filter (is_target all dest) ps)))
-          (elim (runs p.life) as (λ r. (cond {A = ℕ} ((p.id == d) && is_set (cond r (outcome_of_accept (acceptance v p.apic)) what.Asleep)) 1 0 + sets_at d (map (outcome_at warm (sends.Fixed v level)) (filter (is_target all dest) ps))) + (cond {A = ℕ} ((p.id == d) && has v p.apic.irr) 1 0 + requests d v ps)
-          ≡ cond {A = ℕ} (((cond r (record p { apic = accepted v level p.apic }) p).id == d) && has v (cond r (record p { apic = accepted v level p.apic }) p).apic.irr) 1 0 + requests d v (map (delivered_to warm all dest (sends.Fixed v level)) ps)) [
+          rw (sum_by-cons (λ (o : Outcome). cond {A = ℕ} ((o.at == d) && is_set o.what) 1 0) (outcome_at warm (sends.Fixed v level) p) (map (outcome_at warm (sends.Fixed v level)) (filter test ps)))
+          (elim (runs p.life) as (λ r. (cond {A = ℕ} ((p.id == d) && is_set (cond r (outcome_of_accept (acceptance v p.apic)) what.Asleep)) 1 0 + sets_at d (map (outcome_at warm (sends.Fixed v level)) (filter test ps))) + (cond {A = ℕ} ((p.id == d) && has v p.apic.irr) 1 0 + requests d v ps)
+          ≡ cond {A = ℕ} (((cond r (record p { apic = accepted v level p.apic }) p).id == d) && has v (cond r (record p { apic = accepted v level p.apic }) p).apic.irr) 1 0 + requests d v (map (delivered_to warm test (sends.Fixed v level)) ps)) [
             | true ↦ omega (arith, one-target d v level p, h)
             | false ↦ omega (arith, none (p.id == d), h)
           ])
@@ -275,42 +275,42 @@ plain-received warm v sends.Pass plain = record { id = λ p. refl; irr = λ p. r
 plain-received warm v sends.Init plain = record { id = λ p. refl; irr = λ p. refl }
 plain-received warm v (sends.Startup page) plain = record { id = λ p. refl; irr = λ p. refl }
 
-delivered-keeps : (v all dest : ℕ) (warm : Option ℕ) (m : Delivery) → Keeps v (received warm m) → Keeps v (delivered_to warm all dest m)
-delivered-keeps v all dest warm m keeps = record {
-  id = λ p. elim (is_target all dest p) as (λ b. (cond b (received warm m p) p).id ≡ p.id) [ true ↦ keeps.id p | false ↦ refl ];
-  irr = λ p. elim (is_target all dest p) as (λ b. has v (cond b (received warm m p) p).apic.irr ≡ has v p.apic.irr) [ true ↦ keeps.irr p | false ↦ refl ];
+delivered-keeps : (v : ℕ) (test : Processor → Bool) (warm : Option ℕ) (m : Delivery) → Keeps v (received warm m) → Keeps v (delivered_to warm test m)
+delivered-keeps v test warm m keeps = record {
+  id = λ p. elim (test p) as (λ b. (cond b (received warm m p) p).id ≡ p.id) [ true ↦ keeps.id p | false ↦ refl ];
+  irr = λ p. elim (test p) as (λ b. has v (cond b (received warm m p) p).apic.irr ≡ has v p.apic.irr) [ true ↦ keeps.irr p | false ↦ refl ];
 }
 
-pub plain-keeps : (d v all dest : ℕ) (warm : Option ℕ) (m : Delivery) (ps : List Processor) → IsPlain m → requests d v (map (delivered_to warm all dest m) ps) ≡ requests d v ps
-plain-keeps d v all dest warm m ps plain = map-keeps d v (delivered_to warm all dest m) ps (delivered-keeps v all dest warm m (plain-received warm v m plain))
+pub plain-keeps : (d v : ℕ) (test : Processor → Bool) (warm : Option ℕ) (m : Delivery) (ps : List Processor) → IsPlain m → requests d v (map (delivered_to warm test m) ps) ≡ requests d v ps
+plain-keeps d v test warm m ps plain = map-keeps d v (delivered_to warm test m) ps (delivered-keeps v test warm m (plain-received warm v m plain))
 
 -- a message of this vector, where it has one
 abbrev pub IsOf : ℕ → Delivery → Type 0
 IsOf u (sends.Fixed w level) = w ≡ u
 IsOf u m = Unit {0}
 
-plain-counts : (d v u all dest : ℕ) (warm : Option ℕ) (m : Delivery) (ps : List Processor) → IsPlain m → cond {A = ℕ} (u == v) (sets_at d (outcomes_at warm all dest m ps)) 0 + requests d v ps ≡ requests d v (map (delivered_to warm all dest m) ps)
-plain-counts d v u all dest warm m ps plain =
-    let kept = plain-keeps d v all dest warm m ps plain in
-    rw (plain-sets d all dest warm m ps plain) (elim (u == v) as (λ b. cond {A = ℕ} b 0 0 + requests d v ps ≡ requests d v (map (delivered_to warm all dest m) ps)) [ true ↦ omega (arith, kept) | false ↦ omega (arith, kept) ])
+plain-counts : (d v u : ℕ) (test : Processor → Bool) (dest : ℕ) (warm : Option ℕ) (m : Delivery) (ps : List Processor) → IsPlain m → cond {A = ℕ} (u == v) (sets_at d (outcomes_at warm test dest m ps)) 0 + requests d v ps ≡ requests d v (map (delivered_to warm test m) ps)
+plain-counts d v u test dest warm m ps plain =
+    let kept = plain-keeps d v test warm m ps plain in
+    rw (plain-sets d test dest warm m ps plain) (elim (u == v) as (λ b. cond {A = ℕ} b 0 0 + requests d v ps ≡ requests d v (map (delivered_to warm test m) ps)) [ true ↦ omega (arith, kept) | false ↦ omega (arith, kept) ])
 
 -- the Set outcomes of the vector are its requests that are new
-pub delivery-counts : (d v u all dest : ℕ) (warm : Option ℕ) (m : Delivery) (ps : List Processor) → IsOf u m
-    → cond {A = ℕ} (u == v) (sets_at d (outcomes_at warm all dest m ps)) 0 + requests d v ps ≡ requests d v (map (delivered_to warm all dest m) ps)
-delivery-counts d v u all dest warm (sends.Fixed w level) ps is =
+pub delivery-counts : (d v u : ℕ) (test : Processor → Bool) (dest : ℕ) (warm : Option ℕ) (m : Delivery) (ps : List Processor) → IsOf u m
+    → cond {A = ℕ} (u == v) (sets_at d (outcomes_at warm test dest m ps)) 0 + requests d v ps ≡ requests d v (map (delivered_to warm test m) ps)
+delivery-counts d v u test dest warm (sends.Fixed w level) ps is =
     elim (cases_eq w v) [
       | inl same ↦
-          let set = sets-unless d dest (map (outcome_at warm (sends.Fixed w level)) (filter (is_target all dest) ps)) in
-          let counts = subst (λ (x : ℕ). sets_at d (map (outcome_at warm (sends.Fixed w level)) (filter (is_target all dest) ps)) + requests d x ps ≡ requests d x (map (delivered_to warm all dest (sends.Fixed w level)) ps)) same (fixed-requests d w all dest level warm ps) in
+          let set = sets-unless d dest (map (outcome_at warm (sends.Fixed w level)) (filter test ps)) in
+          let counts = subst (λ (x : ℕ). sets_at d (map (outcome_at warm (sends.Fixed w level)) (filter test ps)) + requests d x ps ≡ requests d x (map (delivered_to warm test (sends.Fixed w level)) ps)) same (fixed-requests d w test level warm ps) in
           rw (eq-eqb u v (sym is ∙ same)) (omega (arith, set, counts))
       | inr ne ↦
-          let kept = map-keeps d v (delivered_to warm all dest (sends.Fixed w level)) ps (delivered-keeps v all dest warm (sends.Fixed w level) (other-received warm v w level (λ e. ne (sym e)))) in
+          let kept = map-keeps d v (delivered_to warm test (sends.Fixed w level)) ps (delivered-keeps v test warm (sends.Fixed w level) (other-received warm v w level (λ e. ne (sym e)))) in
           rw (ne_eqb u v (λ e. ne (is ∙ e))) (omega (arith, kept))
     ]
-delivery-counts d v u all dest warm sends.Nmi ps is = plain-counts d v u all dest warm sends.Nmi ps tt
-delivery-counts d v u all dest warm sends.Pass ps is = plain-counts d v u all dest warm sends.Pass ps tt
-delivery-counts d v u all dest warm sends.Init ps is = plain-counts d v u all dest warm sends.Init ps tt
-delivery-counts d v u all dest warm (sends.Startup page) ps is = plain-counts d v u all dest warm (sends.Startup page) ps tt
+delivery-counts d v u test dest warm sends.Nmi ps is = plain-counts d v u test dest warm sends.Nmi ps tt
+delivery-counts d v u test dest warm sends.Pass ps is = plain-counts d v u test dest warm sends.Pass ps tt
+delivery-counts d v u test dest warm sends.Init ps is = plain-counts d v u test dest warm sends.Init ps tt
+delivery-counts d v u test dest warm (sends.Startup page) ps is = plain-counts d v u test dest warm (sends.Startup page) ps tt
 
 -- with distinct ids a processor's requests are those of the processor with that id
 none-above : (d v : ℕ) (ps : List Processor) → AllByRecursion (λ y. d < y) (map (λ p. p.id) ps) → requests d v ps ≡ 0

@@ -1,5 +1,5 @@
 -- What the initial_state_of state has to spend is the sum that the config says.
-use Rattle.std.proofs.Common.{◌≡◌, ◌≢◌, ◌==◌, ℕ, zero, suc, ◌+◌, ◌*◌, ◌<◌, ◌≤◌, true, false, cond, ◌&&◌, List, [], ◌∷◌, ◌++◌, length, take, drop, map, sum, sum_by, count_by, refl, ap, arith, inl, inr, ◌⊎◌}
+use Rattle.std.proofs.Common.{◌≡◌, ◌≢◌, ◌==◌, ℕ, zero, suc, ◌+◌, ◌*◌, ◌<◌, ◌≤◌, true, false, cond, ◌&&◌, List, [], ◌∷◌, ◌++◌, length, take, drop, map, sum, sum_by, count_by, refl, sym, ap, arith, inl, inr, ◌⊎◌}
 use Rattle.std.proofs.lemmas.List.Sums.{sum_by-cons}
 use Rattle.std.proofs.lemmas.Bool.{cases_eq, eq-eqb, ne_eqb}
 use Rattle.std.specs.List.{range_with_len, filter_map, AllByRecursion}
@@ -9,10 +9,11 @@ use Rattle.mpb_spec.specs.declared.agent.Op.TheVariants as op
 use Rattle.mpb_spec.specs.declared.config.DevWord.{DevWord}
 use Rattle.mpb_spec.specs.declared.config.DevWord.TheVariants as word
 use Rattle.mpb_spec.specs.State.{Place}
-use Rattle.mpb_spec.specs.Plan.{Plan, CpuPlan, initial_state_of, pulses_on, planned, op_of_word, device_program, first_place, first_places, first_processor, first_device}
+use Rattle.mpb_spec.specs.Plan.{Plan, CpuPlan, initial_state_of, op_of_word, device_program, first_place, first_places, first_processor, first_device}
 use Rattle.mpb_spec.specs.Configs.{IsConfig, IsCpuPlan, IsWordOn, is_boot_op, is_script_op, boot_ops}
 use Rattle.mpb_spec.specs.Room.{sends_by, program_cost, processor_cost, device_cost, place_cost, due_pins, pins_in, cost, room, is_pulse, is_high, is_write, is_eoi}
 use Rattle.mpb_spec.specs.Journal.{IsLegal}
+use Rattle.mpb_spec.proofs.Planned.{pulses_on, planned_by, planned_by_more}
 use Rattle.mpb_laws.proofs.StepSpends.{steps_within}
 
 -- sums over n pins, and over the pins of all I/O APICs
@@ -44,16 +45,16 @@ grid-zero n f a (id ∷ ids) e = omega (arith, row-zero (f a) 0 n (e a), grid-ze
 
 -- one pin of one I/O APIC
 abbrev one : ℕ → ℕ → ℕ → ℕ → ℕ
-one b p a q = cond ((a == b) && (q == p)) 1 0
+one b p a q = cond ((b == a) && (p == q)) 1 0
 
 row-off : (b p a k n : ℕ) → a ≢ b → row (one b p a) k n ≡ 0
-row-off b p a k n ne = row-zero (one b p a) k n (λ q. rw (ne_eqb a b ne) refl)
+row-off b p a k n ne = row-zero (one b p a) k n (λ q. rw (ne_eqb b a (λ e. ne (sym e))) refl)
 
 one-here : (b p a q : ℕ) → a ≡ b → q ≡ p → one b p a q ≡ 1
-one-here b p a q e f = rw (eq-eqb a b e) (rw (eq-eqb q p f) refl)
+one-here b p a q e f = rw (eq-eqb b a (sym e)) (rw (eq-eqb p q (sym f)) refl)
 
 one-off : (b p a q : ℕ) → a ≡ b → q ≢ p → one b p a q ≡ 0
-one-off b p a q e ne = rw (eq-eqb a b e) (rw (ne_eqb q p ne) refl)
+one-off b p a q e ne = rw (eq-eqb b a (sym e)) (rw (ne_eqb p q (λ f. ne (sym f))) refl)
 
 row-miss : (b p a k n : ℕ) → a ≡ b → p < k → row (one b p a) k n ≡ 0
 row-miss b p a k zero e lt = refl
@@ -96,10 +97,10 @@ words-grid n ids (w ∷ ws) le on =
     let parts = grid-add n (λ a p. pulses_on a p w) (λ a p. sum_by (pulses_on a p) ws) (λ a p. sum_by (pulses_on a p) (w ∷ ws)) 0 ids (λ a p. sum_by-cons (pulses_on a p) w ws) in
     rw (sum_by-cons (λ v. cond {A = ℕ} (is_pulse v) 1 0) w ws) (omega (arith, parts, word-grid n ids w le on.0, words-grid n ids ws le on.1))
 
-devices-grid : (n : ℕ) (ids : List ℕ) (ds : List (List DevWord)) → 24 ≤ n → AllByRecursion (AllByRecursion (IsWordOn (length ids))) ds → grid n (planned ds) 0 ids ≡ sum_by (λ ws. count_by is_pulse ws) ds
+devices-grid : (n : ℕ) (ids : List ℕ) (ds : List (List DevWord)) → 24 ≤ n → AllByRecursion (AllByRecursion (IsWordOn (length ids))) ds → grid n (planned_by ds) 0 ids ≡ sum_by (λ ws. count_by is_pulse ws) ds
 devices-grid n ids [] le on = grid-zero n (λ a p. 0) 0 ids (λ a p. refl)
 devices-grid n ids (ws ∷ ds) le on =
-    let parts = grid-add n (λ a p. sum_by (pulses_on a p) ws) (planned ds) (planned (ws ∷ ds)) 0 ids (λ a p. sum_by-cons (λ (vs : List DevWord). sum_by (pulses_on a p) vs) ws ds) in
+    let parts = grid-add n (λ a p. sum_by (pulses_on a p) ws) (planned_by ds) (planned_by (ws ∷ ds)) 0 ids (λ a p. planned_by_more a p ws ds) in
     rw (sum_by-cons (λ (vs : List DevWord). count_by is_pulse vs) ws ds) (omega (arith, parts, words-grid n ids ws le on.0, devices-grid n ids ds le on.1))
 
 -- I/O APICs
@@ -108,10 +109,10 @@ fresh-cost p due fresh =
     let sweep : cond {A = ℕ} p.swept 0 1 ≡ 1 = ap (λ b. cond {A = ℕ} b 0 1) fresh in
     omega (arith, due, sweep)
 
-places-cost : (n : ℕ) (ds : List (List DevWord)) (a : ℕ) (ids : List ℕ) → n ≡ 24 → sum_by place_cost (first_places ds a ids) ≡ 2 * grid n (planned ds) a ids + length ids
+places-cost : (n : ℕ) (ds : List (List DevWord)) (a : ℕ) (ids : List ℕ) → n ≡ 24 → sum_by place_cost (first_places ds a ids) ≡ 2 * grid n (planned_by ds) a ids + length ids
 places-cost n ds a [] e = omega arith
 places-cost n ds a (id ∷ ids) e =
-    let here : place_cost (first_place ds a id) ≡ 2 * row (planned ds a) 0 n + 1 = rw e (fresh-cost (first_place ds a id) refl refl) in
+    let here : place_cost (first_place ds a id) ≡ 2 * row (planned_by ds a) 0 n + 1 = rw e (fresh-cost (first_place ds a id) refl refl) in
     rw (sum_by-cons place_cost (first_place ds a id) (first_places ds (a + 1) ids)) (omega (arith, here, places-cost n ds (a + 1) ids e))
 
 first-pins : (ds : List (List DevWord)) (a : ℕ) (ids : List ℕ) → pins_in (first_places ds a ids) ≡ 24 * length ids

@@ -1,5 +1,5 @@
 -- One step: the Set outcomes of a vector at a processor are its requests that are new, and each take is one request less.
-use Rattle.std.proofs.Common.{◌≡◌, ◌==◌, ℕ, suc, ◌+◌, Bool, true, false, cond, ◌&&◌, List, [], ◌∷◌, map, refl, sym, ap, ap₂, ◌∙◌, arith, Option, Some, None, slice_get, option_map, count_by, sum_by, fold, subst}
+use Rattle.std.proofs.Common.{◌≡◌, ◌==◌, ℕ, suc, ◌+◌, Bool, true, false, cond, ◌&&◌, List, [], ◌∷◌, map, refl, sym, ap, ap₂, ◌∙◌, arith, Option, Some, None, slice_get, nat_lt, option_map, count_by, sum_by, fold, subst}
 use Rattle.std.proofs.lemmas.List.Sums.{sum_by-cons}
 use Rattle.mpb_spec.specs.declared.agent.Agent.{Agent}
 use Rattle.mpb_spec.specs.declared.agent.Agent.TheVariants.{Cpu, Io, Dev}
@@ -9,6 +9,7 @@ use Rattle.mpb_spec.specs.declared.entry.Entry.{Entry}
 use Rattle.mpb_spec.specs.declared.entry.Outcome.{Outcome}
 use Rattle.mpb_spec.specs.declared.entry.What.{What}
 use Rattle.mpb_spec.specs.declared.entry.What.TheVariants as what
+use Rattle.mpb_spec.specs.declared.apic.Aim.{Aim}
 use Rattle.mpb_spec.specs.declared.apic.Delivery.{Delivery}
 use Rattle.mpb_spec.specs.declared.apic.Delivery.TheVariants as sends
 use Rattle.mpb_spec.specs.declared.apic.Effect.{Effect}
@@ -20,13 +21,13 @@ use Rattle.mpb_spec.specs.Numbers.{has, greatest, IsAscending}
 use Rattle.mpb_spec.specs.LocalApic.{LocalApic, taken, accepted, after_end, after_end_of}
 use Rattle.mpb_spec.specs.IoApic.{write_effect}
 use Rattle.mpb_spec.specs.State.{Processor, Place, BoardState, runs, processor_of, change_processor}
-use Rattle.mpb_spec.specs.Delivery.{is_target, received, delivered_to}
-use Rattle.mpb_spec.specs.Steps.{after, effect_of_cpu, with_apic, due_at, kind_of, deliver_kind, kind_outcomes, sent_message, send_outcomes, ended_at}
+use Rattle.mpb_spec.specs.Delivery.{is_target, received, delivered_to, to_id, to_logical, byte_of}
+use Rattle.mpb_spec.specs.Steps.{after, effect_of_cpu, with_apic, due_at, kind_of, aim_of, deliver_kind, kind_outcomes, sent_message, send_outcomes, ended_at}
 use Rattle.mpb_spec.specs.Outcomes.{outcomes_of, outcomes_of_cpu, found, found_alive, what_ended, what_effect, of_write, of_read}
 use Rattle.mpb_spec.specs.Plan.{Plan, CpuPlan, initial_state_of, first_processor}
 use Rattle.mpb_spec.specs.Configs.{IsConfig}
 use Rattle.mpb_spec.specs.Journal.{AreSteps, IsStep, IsLegal, after_entry}
-use Rattle.mpb_spec.specs.Requests.{is_vector, is_set, is_taken, is_cpu, sets_at, vector_sent, accepted_by, accepted_from, taken_in}
+use Rattle.mpb_spec.specs.Requests.{is_vector, is_set, is_taken, is_cpu, sets_at, vector_sent, sets_by, sets_from, taken_in}
 use Rattle.mpb_laws.specs.Accounts.{IsAccounted}
 use Rattle.mpb_laws.proofs.RequestLemmas.{requests, requests-cons, Keeps, change-keeps, take-counts, takes-at, plain-keeps, delivery-counts, IsOf, requests-of_one}
 
@@ -99,16 +100,20 @@ taking : (d v id : ℕ) (s : BoardState) (w : What) → cond {A = ℕ} (id == d)
 taking d v id s w h = rw (one-outcome v 0 w) (sym h)
 
 cpu-counts : (d v id : ℕ) (o : Op) (s : BoardState) → Counts d v id o s
-cpu-counts d v id (op.Init dest) s = still d v id (op.Init dest) s refl (takes-at v s.warm 255 dest sends.Init s.processors) (plain-keeps d v 255 dest s.warm sends.Init s.processors tt)
-cpu-counts d v id (op.Startup dest page) s = still d v id (op.Startup dest page) s refl (takes-at v s.warm 255 dest (sends.Startup page) s.processors) (plain-keeps d v 255 dest s.warm (sends.Startup page) s.processors tt)
-cpu-counts d v id (op.Nmi dest) s = still d v id (op.Nmi dest) s refl (takes-at v s.warm 255 dest sends.Nmi s.processors) (plain-keeps d v 255 dest s.warm sends.Nmi s.processors tt)
+cpu-counts d v id (op.Init dest) s = still d v id (op.Init dest) s refl (takes-at v s.warm (is_target (to_id dest) s.processors) dest sends.Init s.processors) (plain-keeps d v (is_target (to_id dest) s.processors) s.warm sends.Init s.processors tt)
+cpu-counts d v id (op.Startup dest page) s = still d v id (op.Startup dest page) s refl (takes-at v s.warm (is_target (to_id dest) s.processors) dest (sends.Startup page) s.processors) (plain-keeps d v (is_target (to_id dest) s.processors) s.warm (sends.Startup page) s.processors tt)
+cpu-counts d v id (op.Nmi dest) s = still d v id (op.Nmi dest) s refl (takes-at v s.warm (is_target (to_id dest) s.processors) dest sends.Nmi s.processors) (plain-keeps d v (is_target (to_id dest) s.processors) s.warm sends.Nmi s.processors tt)
 cpu-counts d v id (op.Ipi dest u) s =
-    omega (arith, delivery-counts d v u 255 dest s.warm (sends.Fixed u false) s.processors refl, zero-takes (id == d) (takes v (outcomes_of_cpu id (op.Ipi dest u) s)) (takes-at v s.warm 255 dest (sends.Fixed u false) s.processors))
+    omega (arith, delivery-counts d v u (is_target (to_id dest) s.processors) dest s.warm (sends.Fixed u false) s.processors refl, zero-takes (id == d) (takes v (outcomes_of_cpu id (op.Ipi dest u) s)) (takes-at v s.warm (is_target (to_id dest) s.processors) dest (sends.Fixed u false) s.processors))
+cpu-counts d v id (op.Ipl dest u) s =
+    omega (arith, delivery-counts d v u (is_target (to_logical dest) s.processors) dest s.warm (sends.Fixed u false) s.processors refl, zero-takes (id == d) (takes v (outcomes_of_cpu id (op.Ipl dest u) s)) (takes-at v s.warm (is_target (to_logical dest) s.processors) dest (sends.Fixed u false) s.processors))
 cpu-counts d v id (op.Check dest) s = still d v id (op.Check dest) s refl (one-untaken v dest (found (processor_of dest s.processors)) (found-untaken v (processor_of dest s.processors))) refl
 cpu-counts d v id op.Take s = omega (arith, taking d v id s _ (take-counts d v id s.processors))
 cpu-counts d v id op.Poll s = omega (arith, taking d v id s _ (take-counts d v id s.processors))
 cpu-counts d v id op.Eoi s = still d v id op.Eoi s refl (one-untaken v 0 (what_ended (ended_at (processor_of id s.processors))) (ended-untaken v (ended_at (processor_of id s.processors)))) (change-keeps d v id (with_apic after_end) s.processors (apic-keeps v after_end (λ a. end-keeps v a (greatest a.isr))))
 cpu-counts d v id (op.Tpr n) s = still d v id (op.Tpr n) s refl refl (change-keeps d v id (with_apic (λ a. record a { tpr = n })) s.processors (apic-keeps v (λ a. record a { tpr = n }) (λ a. refl)))
+cpu-counts d v id (op.Ldr n) s = still d v id (op.Ldr n) s refl refl (change-keeps d v id (with_apic (λ a. record a { ldr = n })) s.processors (apic-keeps v (λ a. record a { ldr = n }) (λ a. refl)))
+cpu-counts d v id (op.Dfr n) s = still d v id (op.Dfr n) s refl refl (change-keeps d v id (with_apic (λ a. record a { dfr = n })) s.processors (apic-keeps v (λ a. record a { dfr = n }) (λ a. refl)))
 cpu-counts d v id (op.IoWin a value) s = still d v id (op.IoWin a value) s refl (one-untaken v 0 (of_write value (slice_get s.places a)) (write-untaken v value (slice_get s.places a))) refl
 cpu-counts d v id (op.IoRead a) s = still d v id (op.IoRead a) s refl (one-untaken v 0 (of_read (slice_get s.places a)) (read-untaken v (slice_get s.places a))) refl
 cpu-counts d v id o s = still d v id o s refl refl refl
@@ -118,18 +123,17 @@ advance-keeps : (d v id : ℕ) (ps : List Processor) → requests d v (change_pr
 advance-keeps d v id ps = change-keeps d v id (λ p. record p { position = suc p.position }) ps (record { id = λ p. refl; irr = λ p. refl })
 
 -- a message of an I/O APIC
-kind-counts : (d v : ℕ) (m : Message) (k : Option Delivery) (s : BoardState) → kind_of m ≡ k → cond {A = ℕ} (m.vector == v) (sets_at d (kind_outcomes m.dest k s)) 0 + requests d v s.processors ≡ requests d v (deliver_kind m.dest k s).processors
+kind-counts : (d v : ℕ) (m : Message) (k : Option Delivery) (s : BoardState) → kind_of m ≡ k → cond {A = ℕ} (m.vector == v) (sets_at d (kind_outcomes (aim_of m) k s)) 0 + requests d v s.processors ≡ requests d v (deliver_kind (aim_of m) k s).processors
 kind-counts d v m None s e = rw (unheard d) (omega (arith, zero-takes (m.vector == v) 0 refl)) where
   unheard : (d : ℕ) → sets_at d (record { at = 0; what = what.Unheard } ∷ []) ≡ 0
   unheard d = sum_by-cons (λ (o : Outcome). cond {A = ℕ} ((o.at == d) && is_set o.what) 1 0) (record { at = 0; what = what.Unheard }) [] ∙ elim (0 == d) as (λ b. cond {A = ℕ} (b && false) 1 0 + 0 ≡ 0) [ true ↦ refl | false ↦ refl ]
-kind-counts d v m (Some k) s e = delivery-counts d v m.vector 15 m.dest s.warm k s.processors (of-vector m.logical (m.mode == 0) (m.mode == 2) (m.mode == 4) (m.mode == 7) e) where
-  of-vector : (l a b c f : Bool) → cond {A = Option Delivery} l None (cond a (Some (sends.Fixed m.vector m.level)) (cond b (Some sends.Pass) (cond c (Some sends.Nmi) (cond f (Some sends.Pass) None)))) ≡ Some k → IsOf m.vector k
-  of-vector true a b c f h = cc
-  of-vector false true b c f h = let same : sends.Fixed m.vector m.level ≡ k = cc in subst (IsOf m.vector) same refl
-  of-vector false false true c f h = let same : sends.Pass ≡ k = cc in subst (IsOf m.vector) same tt
-  of-vector false false false true f h = let same : sends.Nmi ≡ k = cc in subst (IsOf m.vector) same tt
-  of-vector false false false false true h = let same : sends.Pass ≡ k = cc in subst (IsOf m.vector) same tt
-  of-vector false false false false false h = cc
+kind-counts d v m (Some k) s e = delivery-counts d v m.vector (is_target (aim_of m) s.processors) (byte_of (aim_of m).at) s.warm k s.processors (of-vector (nat_lt m.mode 2) (m.mode == 2) (m.mode == 4) (m.mode == 7) e) where
+  of-vector : (a b c f : Bool) → cond {A = Option Delivery} a (Some (sends.Fixed m.vector m.level)) (cond b (Some sends.Pass) (cond c (Some sends.Nmi) (cond f (Some sends.Pass) None))) ≡ Some k → IsOf m.vector k
+  of-vector true b c f h = let same : sends.Fixed m.vector m.level ≡ k = cc in subst (IsOf m.vector) same refl
+  of-vector false true c f h = let same : sends.Pass ≡ k = cc in subst (IsOf m.vector) same tt
+  of-vector false false true f h = let same : sends.Nmi ≡ k = cc in subst (IsOf m.vector) same tt
+  of-vector false false false true h = let same : sends.Pass ≡ k = cc in subst (IsOf m.vector) same tt
+  of-vector false false false false h = cc
 
 -- a step of an I/O APIC: only a send delivers
 send-counts : (d v a pin : ℕ) (m : Option Message) (s : BoardState) → due_at a s ≡ m
@@ -155,14 +159,14 @@ step-counts d v (Io a) op.Sweep s = omega arith
 step-counts d v (Io a) o s = omega arith
 
 -- the same of an entry
-entry-counts : (d v : ℕ) (s : BoardState) (x : Entry) → IsStep s x → accepted_by d v s x + requests d v s.processors ≡ taken_in d v x + requests d v (after_entry s x).processors
+entry-counts : (d v : ℕ) (s : BoardState) (x : Entry) → IsStep s x → sets_by d v s x + requests d v s.processors ≡ taken_in d v x + requests d v (after_entry s x).processors
 entry-counts d v s x step =
-    let asked : accepted_by d v s x ≡ asks_in d v x.agent x.op s = ap (λ (os : List Outcome). cond {A = ℕ} (is_vector v (vector_sent x.agent x.op s)) (sets_at d os) 0) step.outcomes in
+    let asked : sets_by d v s x ≡ asks_in d v x.agent x.op s = ap (λ (os : List Outcome). cond {A = ℕ} (is_vector v (vector_sent x.agent x.op s)) (sets_at d os) 0) step.outcomes in
     let took : taken_in d v x ≡ takes_in d v x.agent x.op s = ap (λ (os : List Outcome). cond {A = ℕ} (is_cpu d x.agent) (takes v os) 0) step.outcomes in
     omega (arith, asked, took, step-counts d v x.agent x.op s)
 
 -- a whole run
-run-counts : (d v : ℕ) (s : BoardState) (xs : List Entry) → AreSteps s xs → accepted_from d v s xs + requests d v s.processors ≡ sum_by (taken_in d v) xs + requests d v (fold after_entry s xs).processors
+run-counts : (d v : ℕ) (s : BoardState) (xs : List Entry) → AreSteps s xs → sets_from d v s xs + requests d v s.processors ≡ sum_by (taken_in d v) xs + requests d v (fold after_entry s xs).processors
 run-counts d v s [] steps = omega arith
 run-counts d v s (x ∷ xs) steps =
     rw (sum_by-cons (taken_in d v) x xs) (omega (arith, entry-counts d v s x steps.0, run-counts d v (after_entry s x) xs steps.1))
@@ -192,27 +196,30 @@ received-ids warm sends.Pass p = refl
 received-ids warm sends.Init p = refl
 received-ids warm (sends.Startup page) p = refl
 
-delivered-ids : (all dest : ℕ) (warm : Option ℕ) (m : Delivery) (ps : List Processor) → ids (map (delivered_to warm all dest m) ps) ≡ ids ps
-delivered-ids all dest warm m ps = map-ids (delivered_to warm all dest m) ps (λ p. elim (is_target all dest p) as (λ b. (cond b (received warm m p) p).id ≡ p.id) [ true ↦ received-ids warm m p | false ↦ refl ])
+delivered-ids : (test : Processor → Bool) (warm : Option ℕ) (m : Delivery) (ps : List Processor) → ids (map (delivered_to warm test m) ps) ≡ ids ps
+delivered-ids test warm m ps = map-ids (delivered_to warm test m) ps (λ p. elim (test p) as (λ b. (cond b (received warm m p) p).id ≡ p.id) [ true ↦ received-ids warm m p | false ↦ refl ])
 
 cpu-ids : (id : ℕ) (o : Op) (s : BoardState) → ids (effect_of_cpu id o s).processors ≡ ids s.processors
-cpu-ids id (op.Init dest) s = delivered-ids 255 dest s.warm sends.Init s.processors
-cpu-ids id (op.Startup dest page) s = delivered-ids 255 dest s.warm (sends.Startup page) s.processors
-cpu-ids id (op.Ipi dest u) s = delivered-ids 255 dest s.warm (sends.Fixed u false) s.processors
-cpu-ids id (op.Nmi dest) s = delivered-ids 255 dest s.warm sends.Nmi s.processors
+cpu-ids id (op.Init dest) s = delivered-ids (is_target (to_id dest) s.processors) s.warm sends.Init s.processors
+cpu-ids id (op.Startup dest page) s = delivered-ids (is_target (to_id dest) s.processors) s.warm (sends.Startup page) s.processors
+cpu-ids id (op.Ipi dest u) s = delivered-ids (is_target (to_id dest) s.processors) s.warm (sends.Fixed u false) s.processors
+cpu-ids id (op.Ipl dest u) s = delivered-ids (is_target (to_logical dest) s.processors) s.warm (sends.Fixed u false) s.processors
+cpu-ids id (op.Nmi dest) s = delivered-ids (is_target (to_id dest) s.processors) s.warm sends.Nmi s.processors
 cpu-ids id op.Take s = change-ids id (with_apic taken) s.processors (λ p. refl)
 cpu-ids id op.Poll s = change-ids id (with_apic taken) s.processors (λ p. refl)
 cpu-ids id op.Eoi s = change-ids id (with_apic after_end) s.processors (λ p. refl)
 cpu-ids id (op.Tpr n) s = change-ids id (with_apic (λ a. record a { tpr = n })) s.processors (λ p. refl)
+cpu-ids id (op.Ldr n) s = change-ids id (with_apic (λ a. record a { ldr = n })) s.processors (λ p. refl)
+cpu-ids id (op.Dfr n) s = change-ids id (with_apic (λ a. record a { dfr = n })) s.processors (λ p. refl)
 cpu-ids id o s = refl
 
-kind-ids : (dest : ℕ) (k : Option Delivery) (s : BoardState) → ids (deliver_kind dest k s).processors ≡ ids s.processors
-kind-ids dest None s = refl
-kind-ids dest (Some m) s = delivered-ids 15 dest s.warm m s.processors
+kind-ids : (aim : Aim) (k : Option Delivery) (s : BoardState) → ids (deliver_kind aim k s).processors ≡ ids s.processors
+kind-ids aim None s = refl
+kind-ids aim (Some m) s = delivered-ids (is_target aim s.processors) s.warm m s.processors
 
 send-ids : (a : ℕ) (m : Option Message) (s : BoardState) → ids (sent_message a m s).processors ≡ ids s.processors
 send-ids a None s = refl
-send-ids a (Some m) s = kind-ids m.dest (kind_of m) s
+send-ids a (Some m) s = kind-ids (aim_of m) (kind_of m) s
 
 step-ids : (g : Agent) (o : Op) (s : BoardState) → ids (after g o s).processors ≡ ids s.processors
 step-ids (Cpu id) o s = change-ids id (λ p. record p { position = suc p.position }) (effect_of_cpu id o s).processors (λ p. refl) ∙ cpu-ids id o s
@@ -239,7 +246,7 @@ pub first-ids : (boot : ℕ) (ps : List CpuPlan) → ids (map (first_processor b
 first-ids boot [] = refl
 first-ids boot (p ∷ ps) = ap (λ (l : List ℕ). p.id ∷ l) (first-ids boot ps)
 
--- every vector that was accepted was taken, or is still requested
+-- every vector that was set was taken, or is still requested
 pub accounted : (c : Plan) (journal : List Entry) → IsConfig c → IsLegal c journal → IsAccounted c journal
 accounted c journal is legal d v =
     let s : BoardState = initial_state_of c in

@@ -11,13 +11,14 @@ use Rattle.mpb_spec.specs.declared.agent.Op.{Op}
 use Rattle.mpb_spec.specs.declared.agent.Op.TheVariants as op
 use Rattle.mpb_spec.specs.declared.apic.Pin.{Pin}
 use Rattle.mpb_spec.specs.declared.apic.Message.{Message}
+use Rattle.mpb_spec.specs.declared.apic.Aim.{Aim}
 use Rattle.mpb_spec.specs.declared.apic.Delivery.{Delivery}
 use Rattle.mpb_spec.specs.declared.apic.Delivery.TheVariants as sends
 use Rattle.mpb_spec.specs.LocalApic.{LocalApic, next_vector, taken, after_end, accepted}
 use Rattle.mpb_spec.specs.IoApic.{is_level, change_pin, next_due, written, with_half, with_line, with_sent, with_eoi}
 use Rattle.mpb_spec.specs.State.{Processor, Place, Device, BoardState, processor_of, change_processor, change_at, runs, boot_is_through, all_ended}
-use Rattle.mpb_spec.specs.Delivery.{is_target, received}
-use Rattle.mpb_spec.specs.Steps.{next_op, op_of_processor, op_of_device, op_of_place, unless_waiting, unless_early, effect_of_op, after, with_chip, with_pins_of, with_apic, ended_at_places, level_end, collected, all_left, sent_message, due_at, send_of, kind_of, deliver_kind, was_accepted, send_outcomes}
+use Rattle.mpb_spec.specs.Delivery.{is_target, received, to_id, to_logical}
+use Rattle.mpb_spec.specs.Steps.{next_op, op_of_processor, op_of_device, op_of_place, unless_waiting, unless_early, effect_of_op, after, with_chip, with_pins_of, with_apic, ended_at_places, level_end, collected, all_left, sent_message, due_at, send_of, kind_of, aim_of, deliver_kind, was_accepted, send_outcomes}
 use Rattle.mpb_spec.specs.Journal.{AreSteps, after_entry}
 use Rattle.mpb_spec.specs.Room.{program_cost, processor_cost, device_cost, place_cost, sends_by, cost, pins_in}
 use Rattle.mpb_laws.proofs.PinsStay.{pins-stay}
@@ -65,13 +66,13 @@ received-keeps warm (sends.Fixed v level) = record {
 }
 received-keeps warm d = record { id = λ p. refl; program = λ p. refl; position = λ p. refl }
 
-delivered-keeps : (all dest : ℕ) (warm : Option ℕ) (d : Delivery) → KeepsProgram (λ p. cond (is_target all dest p) (received warm d p) p)
-delivered-keeps all dest warm d =
+delivered-keeps : (test : Processor → Bool) (warm : Option ℕ) (d : Delivery) → KeepsProgram (λ p. cond (test p) (received warm d p) p)
+delivered-keeps test warm d =
     let h = received-keeps warm d in
     record {
-      id = λ p. elim (is_target all dest p) as (λ b. (cond b (received warm d p) p).id ≡ p.id) [ true ↦ h.id p | false ↦ refl ];
-      program = λ p. elim (is_target all dest p) as (λ b. (cond b (received warm d p) p).program ≡ p.program) [ true ↦ h.program p | false ↦ refl ];
-      position = λ p. elim (is_target all dest p) as (λ b. (cond b (received warm d p) p).position ≡ p.position) [ true ↦ h.position p | false ↦ refl ];
+      id = λ p. elim (test p) as (λ b. (cond b (received warm d p) p).id ≡ p.id) [ true ↦ h.id p | false ↦ refl ];
+      program = λ p. elim (test p) as (λ b. (cond b (received warm d p) p).program ≡ p.program) [ true ↦ h.program p | false ↦ refl ];
+      position = λ p. elim (test p) as (λ b. (cond b (received warm d p) p).position ≡ p.position) [ true ↦ h.position p | false ↦ refl ];
     }
 
 -- a write makes one pin more due at most
@@ -98,13 +99,16 @@ ended-rise n None ps le = omega arith
 ended-rise n (Some v) ps le = omega (arith, ends-rise v ps)
 
 bounded : (n id : ℕ) (s : BoardState) (o : Op) → pins_in s.places ≤ n → Bounded n id s (effect_of_op (Cpu id) o s) o
-bounded n id s (op.Init d) le = same-places n id s (op.Init d) _ (delivered-keeps 255 d s.warm sends.Init)
-bounded n id s (op.Startup d page) le = same-places n id s (op.Startup d page) _ (delivered-keeps 255 d s.warm (sends.Startup page))
-bounded n id s (op.Ipi d v) le = same-places n id s (op.Ipi d v) _ (delivered-keeps 255 d s.warm (sends.Fixed v false))
-bounded n id s (op.Nmi d) le = same-places n id s (op.Nmi d) _ (delivered-keeps 255 d s.warm sends.Nmi)
+bounded n id s (op.Init d) le = same-places n id s (op.Init d) _ (delivered-keeps (is_target (to_id d) s.processors) s.warm sends.Init)
+bounded n id s (op.Startup d page) le = same-places n id s (op.Startup d page) _ (delivered-keeps (is_target (to_id d) s.processors) s.warm (sends.Startup page))
+bounded n id s (op.Ipi d v) le = same-places n id s (op.Ipi d v) _ (delivered-keeps (is_target (to_id d) s.processors) s.warm (sends.Fixed v false))
+bounded n id s (op.Ipl d v) le = same-places n id s (op.Ipl d v) _ (delivered-keeps (is_target (to_logical d) s.processors) s.warm (sends.Fixed v false))
+bounded n id s (op.Nmi d) le = same-places n id s (op.Nmi d) _ (delivered-keeps (is_target (to_id d) s.processors) s.warm sends.Nmi)
 bounded n id s op.Take le = same-changed n id s op.Take _ (apic-keeps taken)
 bounded n id s op.Poll le = same-changed n id s op.Poll _ (apic-keeps taken)
 bounded n id s (op.Tpr t) le = same-changed n id s (op.Tpr t) _ (apic-keeps (λ a. record a { tpr = t }))
+bounded n id s (op.Ldr t) le = same-changed n id s (op.Ldr t) _ (apic-keeps (λ a. record a { ldr = t }))
+bounded n id s (op.Dfr t) le = same-changed n id s (op.Dfr t) _ (apic-keeps (λ a. record a { dfr = t }))
 bounded n id s op.Eoi le = record {
   processors = kept-changed n id _ s.processors (apic-keeps after_end);
   places = ended-rise n (level_end (processor_of id s.processors)) s.places le;
@@ -191,15 +195,15 @@ sent-off : (accepted : Bool) (p : Pin) → (with_sent accepted p).due ≡ false
 sent-off accepted p = refl
 
 -- what a message of a pin leaves of the processors' costs, and of the devices
-delivery-keeps : (n dest : ℕ) (k : Option Delivery) (s : BoardState) → (sum_by (processor_cost n) (deliver_kind dest k s).processors ≡ sum_by (processor_cost n) s.processors) × ((deliver_kind dest k s).devices ≡ s.devices) × ((deliver_kind dest k s).places ≡ s.places)
-delivery-keeps n dest None s = (refl, refl, refl)
-delivery-keeps n dest (Some d) s = (kept-plain n _ s.processors (delivered-keeps 15 dest s.warm d), refl, refl)
+delivery-keeps : (n : ℕ) (aim : Aim) (k : Option Delivery) (s : BoardState) → (sum_by (processor_cost n) (deliver_kind aim k s).processors ≡ sum_by (processor_cost n) s.processors) × ((deliver_kind aim k s).devices ≡ s.devices) × ((deliver_kind aim k s).places ≡ s.places)
+delivery-keeps n aim None s = (refl, refl, refl)
+delivery-keeps n aim (Some d) s = (kept-plain n _ s.processors (delivered-keeps (is_target aim s.processors) s.warm d), refl, refl)
 
 sends-spend : (n a : ℕ) (s : BoardState) (p : Place) (m : Message) → slice_get s.places a ≡ Some p → next_due p.chip ≡ Some m → cost n (sent_message a (Some m) s) + 1 ≤ cost n s
 sends-spend n a s p m at due =
     let accepted = was_accepted (send_outcomes (Some m) s) in
     let g : Pin → Pin = with_sent accepted in
-    let kept = delivery-keeps n m.dest (kind_of m) s in
+    let kept = delivery-keeps n (aim_of m) (kind_of m) s in
     let h = due-spent 0 g p.chip.pins m (sent-off accepted) due in
     let j : m.pin ≡ h.0 = omega (arith, h.1) in
     let falls = sum-changes place_cost (with_chip (with_pins_of (change_pin m.pin g))) a s.places p at in

@@ -1,10 +1,15 @@
 //! Journals in parts.
 
-ghost use Rattle.std.specs.Prelude.{◌≡◌, List, [], ◌∷◌, ◌++◌, length, map};
+ghost use Rattle.std.specs.Prelude.{◌≡◌, List, [], ◌∷◌, ◌++◌, length, map, Some};
 ghost use Rattle.mpb_spec.specs.declared.entry.Entry.{Entry as AnEntry};
 ghost use Rattle.mpb_spec.specs.Plan.{Plan};
 ghost use Rattle.mpb_spec.specs.Journal.{IsStep, IsLegal, after_entry, final_state_of};
 ghost use Rattle.mpb_spec.specs.May.{MayAny};
+ghost use Rattle.mpb_spec.specs.declared.agent.Agent.{Agent as AnAgent};
+ghost use Rattle.mpb_spec.specs.declared.agent.Offer.{Offer as AnOffer};
+ghost use Rattle.mpb_spec.specs.declared.agent.Op.{Op as AnOp};
+ghost use Rattle.mpb_spec.specs.Configs.{IsConfig, IsModelledBy};
+ghost use Rattle.mpb_spec.specs.Steps.{next_op};
 
 /// A step from where a legal journal ends goes on with it.
 #[tactic(auto, using(crate::proofs::JournalLemmas::goes_on, crate::proofs::JournalLemmas::state_after))]
@@ -32,4 +37,9 @@ pub fn parts_stay()
     ensures processors { (c : Plan) (journal : List AnEntry) → map (λ p. p.id) (final_state_of c journal).processors ≡ map (λ p. p.id) c.cpus }
     ensures places { (c : Plan) (journal : List AnEntry) → length (final_state_of c journal).places ≡ length c.ios }
     ensures devices { (c : Plan) (journal : List AnEntry) → length (final_state_of c journal).devices ≡ length c.devices }
+{}
+
+/// In a journal of a config no processor sets another model of logical destinations than flat and cluster.
+pub fn models_are_flat_or_cluster()
+    ensures { (c : Plan) (journal : List AnEntry) (g : AnAgent) (f : AnOffer) (o : AnOp) → IsConfig c → next_op (final_state_of c journal) g f ≡ Some o → IsModelledBy g o }
 {}

@@ -1,4 +1,4 @@
-//! What becomes of an accepted interrupt (Intel SDM volume 3, section 10.8.4).
+//! What becomes of an interrupt that was set (Intel SDM volume 3, section 10.8.4).
 
 ghost use Rattle.std.specs.Prelude.{List};
 ghost use Rattle.mpb_spec.specs.declared.entry.Entry.{Entry as AnEntry};
@@ -7,9 +7,9 @@ ghost use Rattle.mpb_spec.specs.Configs.{IsConfig};
 ghost use Rattle.mpb_spec.specs.Journal.{IsLegal};
 ghost use Rattle.mpb_laws.specs.Accounts.{IsAccounted};
 
-/// In every legal journal of a config, each vector was accepted at each processor as often as it was
-/// taken there, and once more where it is still requested.
+/// In every legal journal of a config, each vector has at each processor as many Set outcomes as it was
+/// taken there, and one more where it is still requested.
 #[tactic(auto, using(crate::proofs::StepAccounts::accounted))]
-pub fn accepted_vectors_are_taken_or_requested()
+pub fn set_vectors_are_taken_or_requested()
     ensures { (c : Plan) (journal : List AnEntry) → IsConfig c → IsLegal c journal → IsAccounted c journal }
 {}

@@ -2,15 +2,16 @@
 //! volume 3, section 8.4; the start of old processors by the warm-reset vector is that of MultiProcessor
 //! Specification 1.4, appendix B.4.
 
-ghost use Rattle.std.specs.Prelude.{◌≡◌, ◌<◌, Some, None, IfOk, slice_get, suc, length};
+ghost use Rattle.std.specs.Prelude.{◌≡◌, ◌⊎◌, ◌<◌, Some, None, IfOk, slice_get, suc, length};
 ghost use Rattle.mpb_spec.specs.Plan.{first_processor};
 ghost use Rattle.mpb_spec.specs.State.{Processor, runs, is_through};
-ghost use Rattle.mpb_spec.specs.Delivery.{received, answer, is_target, life_after_init, init_outcome, life_after_startup, startup_outcome, outcome_of_accept};
+ghost use Rattle.mpb_spec.specs.Delivery.{received, answer, is_named, is_ready, life_after_init, init_outcome, life_after_startup, startup_outcome, outcome_of_accept};
 ghost use Rattle.mpb_spec.specs.Steps.{op_of_processor, with_apic};
 ghost use Rattle.mpb_spec.specs.LocalApic.{taken, next_vector, ended, after_end};
+ghost use Rattle.mpb_spec.specs.Ranks.{rank_of, is_chosen};
 
 use mpb_lapic::Lapic;
-use mpb_spec::{Accept, CpuConfig, Delivery, Life, Op, What};
+use mpb_spec::{Accept, CpuConfig, Delivery, Destination, Life, Op, What};
 use std::alloc::{AllocError, Global};
 use std::marker::Model;
 
@@ -107,11 +108,40 @@ impl Cpu {
         self.id
     }
 
-    /// Whether a message to `dest` is for it, where `all` means each processor.
-    pub fn is_target(&self, all: u8, dest: u8) -> bool
-        ensures { result ≡ is_target all dest self.now }
+    // whether a destination names it
+    fn is_named(&self, to: Destination) -> bool
+        ensures { result ≡ is_named to self.now }
     {
-        dest == all || self.id == dest
+        match to {
+            Destination::Physical(dest, all) => dest == all || self.id == dest,
+            Destination::Logical(dest) => self.apic.matches(dest),
+        }
+    }
+
+    /// Whether a destination names it, and it runs.
+    pub fn is_ready(&self, to: Destination) -> bool
+        ensures { result ≡ is_ready to self.now }
+    {
+        self.is_named(to) && runs(self.life)
+    }
+
+    /// Its rank among the targets of a message of lowest priority: its priority, then its id.
+    pub fn rank(&self) -> (u8, u8)
+        ensures { result ≡ rank_of self.now }
+    {
+        (self.apic.ppr(), self.id)
+    }
+
+    /// Whether it is a target of a message to the destination, where the processor of this rank is sought.
+    pub fn is_chosen(&self, to: Destination, rank: Option<(u8, u8)>) -> bool
+        ensures { result ≡ is_chosen to rank self.now }
+    {
+        match rank {
+            Some((priority, id)) => {
+                self.is_ready(to) && priority == self.apic.ppr() && id == self.id
+            }
+            None => self.is_named(to),
+        }
     }
 
     /// Takes a message, and answers what came of it; `warm` is the page of the warm-reset vector, where it is set.
@@ -188,6 +218,21 @@ impl Cpu {
         ensures { self.new ≡ with_apic (λ a. record a { tpr = tpr }) self.old }
     {
         self.apic.set_tpr(tpr);
+    }
+
+    /// Sets the logical destination of its local APIC.
+    pub fn set_ldr(&mut self, ldr: u8)
+        ensures { self.new ≡ with_apic (λ a. record a { ldr = ldr }) self.old }
+    {
+        self.apic.set_ldr(ldr);
+    }
+
+    /// Sets the model of its logical destinations.
+    pub fn set_dfr(&mut self, model: u8)
+        requires { (model ≡ 0) ⊎ (model ≡ 15) }
+        ensures { self.new ≡ with_apic (λ a. record a { dfr = model }) self.old }
+    {
+        self.apic.set_dfr(model);
     }
 
     /// Its program is one op further. Condition: it isn't at its end.

@@ -1,6 +1,6 @@
 //! The state of a board, its small changes, and what its agents may do next.
 
-ghost use Rattle.std.specs.Prelude.{◌≡◌, Some, true, suc, slice_get, not, MatchBool, option_map, option_copied, IfOk, ◌<◌, ◌^◌};
+ghost use Rattle.std.specs.Prelude.{◌≡◌, ◌⊎◌, Some, true, suc, slice_get, not, MatchBool, option_map, option_copied, IfOk, ◌<◌, ◌^◌};
 ghost use Rattle.mpb_spec.specs.Plan.{initial_state_of, plan_size};
 ghost use Rattle.mpb_spec.specs.declared.agent.Agent.{Agent as AnAgent};
 ghost use Rattle.mpb_spec.specs.declared.agent.Op.{Op as AnOp};
@@ -19,12 +19,12 @@ use crate::cpu::Cpu;
 use crate::device::Dev;
 use crate::opening::{cpus_of, devices_of, places_of};
 use crate::place::IoPlace;
-use crate::telling::{kind_of, of_eoi, tell, was_accepted};
+use crate::telling::{aim_of, kind_of, of_eoi, tell, was_accepted};
 use crate::{cpus, devices, places};
 use arrayvec::ArrayVec;
 use mpb_ioapic::IoApic;
 use mpb_lapic::Lapic;
-use mpb_spec::{Agent, Config, Delivery, Imcr, Life, Message, Offer, Op, Outcome, What};
+use mpb_spec::{Agent, Aim, Config, Delivery, Imcr, Life, Message, Offer, Op, Outcome, What};
 use std::alloc::{AllocError, Global};
 use std::marker::Model;
 
@@ -96,12 +96,12 @@ impl Machine {
         self.warm = Some(page);
     }
 
-    /// A message is delivered to `dest`, where `all` means each processor, with an outcome for each target.
-    pub fn deliver(&mut self, all: u8, dest: u8, delivery: Delivery) -> ArrayVec<Outcome, 8>
-        ensures state { self.new ≡ delivered all dest delivery self.old }
-        ensures outcomes { result.items ≡ delivery_outcomes all dest delivery self.old }
+    /// A message is delivered, with an outcome for each target.
+    pub fn deliver(&mut self, aim: Aim, delivery: Delivery) -> ArrayVec<Outcome, 8>
+        ensures state { self.new ≡ delivered aim delivery self.old }
+        ensures outcomes { result.items ≡ delivery_outcomes aim delivery self.old }
     {
-        cpus::deliver_to(self.cpus.as_mut_slice(), self.warm, all, dest, delivery)
+        cpus::deliver_to(self.cpus.as_mut_slice(), self.warm, aim, delivery)
     }
 
     /// How a processor is found.
@@ -134,6 +134,21 @@ impl Machine {
         ensures { self.new ≡ record self.old { processors = change_processor id (with_apic (λ a. record a { tpr = tpr })) self.old.processors } }
     {
         cpus::set_tpr(self.cpus.as_mut_slice(), id, tpr);
+    }
+
+    /// A processor sets its logical destination.
+    pub fn set_ldr(&mut self, id: u8, ldr: u8)
+        ensures { self.new ≡ record self.old { processors = change_processor id (with_apic (λ a. record a { ldr = ldr })) self.old.processors } }
+    {
+        cpus::set_ldr(self.cpus.as_mut_slice(), id, ldr);
+    }
+
+    /// A processor sets the model of its logical destinations.
+    pub fn set_dfr(&mut self, id: u8, model: u8)
+        requires { (model ≡ 0) ⊎ (model ≡ 15) }
+        ensures { self.new ≡ record self.old { processors = change_processor id (with_apic (λ a. record a { dfr = model })) self.old.processors } }
+    {
+        cpus::set_dfr(self.cpus.as_mut_slice(), id, model);
     }
 
     /// An I/O APIC selects a register.
@@ -182,12 +197,12 @@ impl Machine {
     }
 
     // what a pin's message delivers is delivered
-    fn deliver_kind(&mut self, dest: u8, kind: Option<Delivery>) -> ArrayVec<Outcome, 8>
-        ensures state { self.new ≡ deliver_kind dest kind self.old }
-        ensures outcomes { result.items ≡ kind_outcomes dest kind self.old }
+    fn deliver_kind(&mut self, aim: Aim, kind: Option<Delivery>) -> ArrayVec<Outcome, 8>
+        ensures state { self.new ≡ deliver_kind aim kind self.old }
+        ensures outcomes { result.items ≡ kind_outcomes aim kind self.old }
     {
         match kind {
-            Some(delivery) => self.deliver(15, dest, delivery),
+            Some(delivery) => self.deliver(aim, delivery),
             None => tell(0, What::Unheard),
         }
     }
@@ -197,7 +212,7 @@ impl Machine {
         ensures state { self.new ≡ sent_message at (Some message.now) self.old }
         ensures outcomes { result.items ≡ send_outcomes (Some message.now) self.old }
     {
-        let outcomes = self.deliver_kind(message.dest, kind_of(message));
+        let outcomes = self.deliver_kind(aim_of(message), kind_of(message));
         let accepted = was_accepted(outcomes.as_slice());
         places::send(
             self.places.as_mut_slice(),

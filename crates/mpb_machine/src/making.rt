@@ -2,16 +2,39 @@
 
 ghost use Rattle.std.specs.Prelude.{◌≡◌, Some};
 ghost use Rattle.mpb_spec.specs.declared.agent.Offer.{Offer};
+ghost use Rattle.mpb_spec.specs.Configs.{IsModelled, IsModelledBy};
+ghost use Rattle.mpb_spec.specs.Delivery.{to_id as an_id, to_logical as a_logical};
 ghost use Rattle.mpb_spec.specs.Steps.{effect_of_cpu, effect_of_dev, effect_of_io, next_op, after};
 ghost use Rattle.mpb_spec.specs.Outcomes.{outcomes_of, outcomes_of_cpu, outcomes_of_dev, outcomes_of_io};
 
 use crate::machine::Machine;
 use crate::telling::tell;
 use arrayvec::ArrayVec;
-use mpb_spec::{Agent, Delivery, Op, Outcome, What};
+use mpb_spec::{Agent, Aim, Delivery, Destination, Op, Outcome, What};
 
-/// An op of a processor, but for its position.
+// where a processor's message goes: a physical destination of 255 is all
+fn to_id(dest: u8) -> Aim
+    ensures { result ≡ an_id dest }
+{
+    Aim {
+        at: Destination::Physical(dest, 255),
+        lowest: false,
+    }
+}
+
+// the same of a logical destination
+fn to_logical(dest: u8) -> Aim
+    ensures { result ≡ a_logical dest }
+{
+    Aim {
+        at: Destination::Logical(dest),
+        lowest: false,
+    }
+}
+
+/// An op of a processor, but for its position. Condition: a model that it sets is 0 or 15.
 pub fn make_cpu(m: &mut Machine, id: u8, op: Op) -> ArrayVec<Outcome, 8>
+    requires { IsModelled op }
     ensures state { m.new ≡ effect_of_cpu id op m.old }
     ensures outcomes { result.items ≡ outcomes_of_cpu id op m.old }
 {
@@ -24,16 +47,25 @@ pub fn make_cpu(m: &mut Machine, id: u8, op: Op) -> ArrayVec<Outcome, 8>
             m.set_warm(page);
             tell(0, What::Done)
         }
-        Op::Init(dest) => m.deliver(255, dest, Delivery::Init),
-        Op::Startup(dest, page) => m.deliver(255, dest, Delivery::Startup(page)),
+        Op::Init(dest) => m.deliver(to_id(dest), Delivery::Init),
+        Op::Startup(dest, page) => m.deliver(to_id(dest), Delivery::Startup(page)),
         Op::Check(dest) => tell(dest, m.check(dest)),
-        Op::Ipi(dest, vector) => m.deliver(255, dest, Delivery::Fixed(vector, false)),
-        Op::Nmi(dest) => m.deliver(255, dest, Delivery::Nmi),
+        Op::Ipi(dest, vector) => m.deliver(to_id(dest), Delivery::Fixed(vector, false)),
+        Op::Ipl(dest, vector) => { m.deliver(to_logical(dest), Delivery::Fixed(vector, false)) }
+        Op::Nmi(dest) => m.deliver(to_id(dest), Delivery::Nmi),
         Op::Take => tell(0, m.take(id)),
         Op::Poll => tell(0, m.take(id)),
         Op::Eoi => tell(0, m.end(id)),
         Op::Tpr(priority) => {
             m.set_tpr(id, priority);
+            tell(0, What::Done)
+        }
+        Op::Ldr(destination) => {
+            m.set_ldr(id, destination);
+            tell(0, What::Done)
+        }
+        Op::Dfr(model) => {
+            m.set_dfr(id, model);
             tell(0, What::Done)
         }
         Op::IoSel(at, index) => {
@@ -74,9 +106,10 @@ pub fn make_io(m: &mut Machine, at: u8, op: Op) -> ArrayVec<Outcome, 8>
     }
 }
 
-/// The op that an agent may make next is made.
+/// The op that an agent may make next is made. Condition: a model that it sets is 0 or 15.
 pub fn make(m: &mut Machine, agent: Agent, op: Op) -> ArrayVec<Outcome, 8>
-    requires { (f : Offer) × (next_op m.old agent f ≡ Some op) }
+    requires may { (f : Offer) × (next_op m.old agent f ≡ Some op) }
+    requires model { IsModelledBy agent op }
     ensures state { m.new ≡ after agent op m.old }
     ensures outcomes { result.items ≡ outcomes_of agent op m.old }
 {

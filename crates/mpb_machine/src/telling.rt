@@ -4,10 +4,10 @@ ghost use Rattle.std.specs.Prelude.{◌≡◌, ◌≤◌, [], ◌∷◌, length}
 ghost use Rattle.std.specs.List.{list_any};
 ghost use Rattle.mpb_spec.specs.declared.entry.What.TheVariants.{Pins as pins};
 ghost use Rattle.mpb_spec.specs.Outcomes.{only, found_alive, what_taken, what_ended, what_effect};
-ghost use Rattle.mpb_spec.specs.Steps.{is_accepted, was_accepted, kind_of};
+ghost use Rattle.mpb_spec.specs.Steps.{is_accepted, was_accepted, kind_of, aim_of};
 
 use arrayvec::ArrayVec;
-use mpb_spec::{Collected, Delivery, Effect, Life, Message, Outcome, What};
+use mpb_spec::{Aim, Collected, Delivery, Destination, Effect, Life, Message, Outcome, What};
 
 /// One outcome.
 pub fn tell(at: u8, what: What) -> ArrayVec<Outcome, 8>
@@ -88,13 +88,24 @@ pub fn was_accepted(outcomes: &[Outcome]) -> bool
 pub fn kind_of(message: &Message) -> Option<Delivery>
     ensures { result ≡ kind_of message.now }
 {
-    if message.logical {
-        return None;
-    }
     match message.mode {
-        0 => Some(Delivery::Fixed(message.vector, message.level)),
+        0 | 1 => Some(Delivery::Fixed(message.vector, message.level)),
         2 | 7 => Some(Delivery::Pass),
         4 => Some(Delivery::Nmi),
         _ => None,
+    }
+}
+
+/// Where it goes: a physical destination of 15 is all, and mode 001 is of lowest priority.
+pub fn aim_of(message: &Message) -> Aim
+    ensures { result ≡ aim_of message.now }
+{
+    Aim {
+        at: if message.logical {
+            Destination::Logical(message.dest)
+        } else {
+            Destination::Physical(message.dest, 15)
+        },
+        lowest: message.mode == 1,
     }
 }

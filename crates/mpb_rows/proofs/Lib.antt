@@ -1,2 +1,3 @@
 pub mod WorkedRows
 pub mod Runs
+pub mod LogicalRows

@@ -70,6 +70,8 @@ pub record ShownCpu : Type 0 where
   pub isr : List ℕ
   pub tmr : List ℕ
   pub tpr : ℕ
+  pub ldr : ℕ
+  pub dfr : ℕ
 
 -- an I/O APIC, without what never changes
 pub record ShownIo : Type 0 where
@@ -91,8 +93,8 @@ pub record Shown : Type 0 where
   pub warm : Option ℕ
 
 -- a processor's part, written short
-abbrev pub shown : ℕ → ℕ → Life → List ℕ → List ℕ → List ℕ → ℕ → ShownCpu
-shown id position life irr isr tmr tpr = record { id = id; position = position; life = life; irr = irr; isr = isr; tmr = tmr; tpr = tpr }
+abbrev pub shown : ℕ → ℕ → Life → List ℕ → List ℕ → List ℕ → ℕ → ℕ → ℕ → ShownCpu
+shown id position life irr isr tmr tpr ldr dfr = record { id = id; position = position; life = life; irr = irr; isr = isr; tmr = tmr; tpr = tpr; ldr = ldr; dfr = dfr }
 
 -- an I/O APIC's part
 abbrev pub shown_io : ℕ → ℕ → ℕ → Bool → ℕ → ℕ → ℕ → List (ℕ × ℕ) → ShownIo
@@ -100,7 +102,7 @@ shown_io index id arbitration swept line due remote halves = record { index = in
 
 -- that of a processor
 abbrev pub shown_cpu_of : Processor → ShownCpu
-shown_cpu_of p = shown p.id p.position p.life p.apic.irr p.apic.isr p.apic.tmr p.apic.tpr
+shown_cpu_of p = shown p.id p.position p.life p.apic.irr p.apic.isr p.apic.tmr p.apic.tpr p.apic.ldr p.apic.dfr
 
 -- that of a place
 abbrev pub shown_io_of : Place → ShownIo

@@ -228,6 +228,33 @@ fn message_mode(rt: &impl Abort, mode: u8, level: bool, logical: bool, rises: Ef
     is_due(rt, &chip, message);
 }
 
+// Asserts the destination of a pin whose entry has A5h in bits 63:56.
+fn destination(rt: &impl Abort, logical: bool, dest: u8) {
+    let mut chip = IoApic::new(0);
+    chip.select(17);
+    writes(rt, &mut chip, 0xA500_0000, Effect::Plain);
+    chip.select(16);
+    let low = u32::from(logical) << 11 | 0x55;
+    writes(rt, &mut chip, low, Effect::Plain);
+    collects(rt, &mut chip, 1, 1, 0);
+    let message = Message {
+        pin: 0,
+        dest,
+        logical,
+        mode: 0,
+        vector: 0x55,
+        level: false,
+    };
+    is_due(rt, &chip, message);
+}
+
+// A logical destination is a whole byte, a physical one four bits.
+#[test]
+fn destinations_of_both_kinds(rt: HostRuntime) {
+    destination(&rt, false, 0x05);
+    destination(&rt, true, 0xA5);
+}
+
 #[test]
 fn each_message_mode(rt: HostRuntime) {
     for mode in 0..2u8 {

@@ -1,5 +1,7 @@
 //! A local APIC by tables, after Intel SDM volume 3, sections 10.8.3 to 10.8.5.
 
+ghost use Rattle.std.specs.Prelude.{◌≡◌, ◌⊎◌};
+
 use crate::harness::same;
 use mpb_lapic::{Accept, Lapic};
 use std::process::Abort;
@@ -106,6 +108,62 @@ fn processor_priority_at_each_class(rt: HostRuntime) {
     }
 }
 
+// Asserts the processor priority under a task priority.
+fn gives_priority(rt: &impl Abort, apic: &mut Lapic, tpr: u8, want: u8) {
+    apic.set_tpr(tpr);
+    same(
+        rt,
+        "task priority, priority",
+        (tpr, apic.ppr()),
+        (tpr, want),
+    );
+}
+
+// With nothing in service it is the task priority; with 2Fh the class alone, and in equal classes the task's.
+#[test]
+fn priority_is_the_class_or_the_task(rt: HostRuntime) {
+    let mut apic = Lapic::new();
+    same(&rt, "after a reset", apic.ppr(), 0);
+    gives_priority(&rt, &mut apic, 0x05, 0x05);
+    gives_priority(&rt, &mut apic, 0x00, 0x00);
+    accepts(&rt, &mut apic, 0x2F, false, Accept::Set);
+    takes(&rt, &mut apic, Some(0x2F));
+    gives_priority(&rt, &mut apic, 0x00, 0x20);
+    gives_priority(&rt, &mut apic, 0x1F, 0x20);
+    gives_priority(&rt, &mut apic, 0x20, 0x20);
+    gives_priority(&rt, &mut apic, 0x25, 0x25);
+    gives_priority(&rt, &mut apic, 0x30, 0x30);
+}
+
+// Asserts that these two vectors alone are level-triggered, of those that are.
+fn has_triggers(rt: &impl Abort, apic: &Lapic, one: bool, other: bool) {
+    for vector in 0..=255u8 {
+        let want = match vector {
+            0x30 => one,
+            0x41 => other,
+            _ => false,
+        };
+        same(rt, "trigger", (vector, apic.tmr(vector)), (vector, want));
+    }
+}
+
+// An edge message clears the trigger of its own vector, and taking and ending a vector leaves each.
+#[test]
+fn triggers_of_two_vectors(rt: HostRuntime) {
+    let mut apic = Lapic::new();
+    accepts(&rt, &mut apic, 0x30, true, Accept::Set);
+    has_triggers(&rt, &apic, true, false);
+    accepts(&rt, &mut apic, 0x41, true, Accept::Set);
+    has_triggers(&rt, &apic, true, true);
+    accepts(&rt, &mut apic, 0x30, false, Accept::Merged);
+    has_triggers(&rt, &apic, false, true);
+    takes(&rt, &mut apic, Some(0x41));
+    ends(&rt, &mut apic, Some((0x41, true)));
+    has_triggers(&rt, &apic, false, true);
+    accepts(&rt, &mut apic, 0x41, false, Accept::Set);
+    has_triggers(&rt, &apic, false, false);
+}
+
 // Each class of the task priority: the last vector of that class waits, the first of the next one is taken.
 #[test]
 fn first_vector_that_passes_each_class(rt: HostRuntime) {
@@ -120,4 +178,42 @@ fn first_vector_that_passes_each_class(rt: HostRuntime) {
         same(&rt, "next above the class", apic.next(), Some(last));
         takes(&rt, &mut apic, Some(last));
     }
+}
+
+// Asserts whether a logical destination is that of a local APIC with these registers.
+fn matches(rt: &impl Abort, ldr: u8, dfr: u8, dest: u8, want: bool)
+    requires { (dfr ≡ 0) ⊎ (dfr ≡ 15) }
+{
+    let mut apic = Lapic::new();
+    apic.set_ldr(ldr);
+    apic.set_dfr(dfr);
+    same(rt, "registers", (apic.ldr(), apic.dfr()), (ldr, dfr));
+    let got = (ldr, dfr, dest, apic.matches(dest));
+    same(
+        rt,
+        "ldr, dfr, destination, whether it matches",
+        got,
+        (ldr, dfr, dest, want),
+    );
+}
+
+#[test]
+fn logical_destinations(rt: HostRuntime) {
+    let apic = Lapic::new();
+    same(&rt, "registers", (apic.ldr(), apic.dfr()), (0, 15));
+    same(&rt, "everyone's", apic.matches(0xFF), true);
+    same(&rt, "none's", apic.matches(0xFE), false);
+    matches(&rt, 0x04, 15, 0x04, true);
+    matches(&rt, 0x04, 15, 0x06, true);
+    matches(&rt, 0x84, 15, 0x90, true);
+    matches(&rt, 0x04, 15, 0x0B, false);
+    matches(&rt, 0x04, 15, 0x00, false);
+    matches(&rt, 0x21, 0, 0x21, true);
+    matches(&rt, 0x21, 0, 0x23, true);
+    matches(&rt, 0x21, 0, 0x22, false);
+    matches(&rt, 0x21, 0, 0x31, false);
+    matches(&rt, 0x21, 0, 0x20, false);
+    matches(&rt, 0x20, 0, 0x2F, false);
+    matches(&rt, 0x21, 0, 0xF1, false);
+    matches(&rt, 0x21, 0, 0xFF, true);
 }

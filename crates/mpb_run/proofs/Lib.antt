@@ -1,3 +1,4 @@
 pub mod ListLemmas
 pub mod TurnLemmas
 pub mod RobinLemmas
+pub mod AdvanceLemmas

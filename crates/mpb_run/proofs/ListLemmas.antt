@@ -7,9 +7,9 @@ use Rattle.mpb_spec.specs.declared.config.DevWord.{DevWord}
 use Rattle.mpb_spec.specs.State.{BoardState, change_at}
 use Rattle.mpb_spec.specs.Steps.{next_op}
 use Rattle.mpb_spec.specs.May.{MayStep}
-use Rattle.mpb_run_laws.specs.declared.act.Act.{Act}
-use Rattle.mpb_run_laws.specs.declared.act.Act.TheVariants as act
-use Rattle.mpb_run_laws.specs.RoundRobin.{acts_of}
+use Rattle.mpb_robin.specs.declared.act.Act.{Act}
+use Rattle.mpb_robin.specs.declared.act.Act.TheVariants as act
+use Rattle.mpb_robin.specs.RoundRobin.{acts_of}
 
 pub set_changes : {X : Type 0} (f : X → X) (n : ℕ) (xs : List X) (y z : X) → n < length xs → y ≡ f (get_or xs n z) → set xs n y ≡ change_at n f xs
 set_changes f n [] y z l e = absurd (omega arith)
@@ -26,6 +26,32 @@ pub map_at : {V X : Type 0} (h : V → X) (n : ℕ) (vs : List V) (v : V) (z : X
 map_at h n [] v z l = absurd (omega arith)
 map_at h zero (w ∷ vs) v z l = refl
 map_at h (suc n) (w ∷ vs) v z l = map_at h n vs v z (omega arith)
+
+-- ---- room
+
+-- what is seen of a member has grown, so that of each member is as large as before
+pub all_as_large : {V : Type 0} (h : V → ℕ) (n : ℕ) (vs : List V) (w z : V) → h (get_or vs n z) ≤ h w → (d : ℕ) → get_or (map h vs) d 0 ≤ get_or (map h (set vs n w)) d 0
+all_as_large h n [] w z l d = omega arith
+all_as_large h zero (v ∷ vs) w z l zero = l
+all_as_large h zero (v ∷ vs) w z l (suc d) = omega arith
+all_as_large h (suc n) (v ∷ vs) w z l zero = omega arith
+all_as_large h (suc n) (v ∷ vs) w z l (suc d) = all_as_large h n vs w z l d
+
+-- the length of a member of a list of lists
+pub length_at : {X : Type 0} (d : ℕ) (xs : List (List X)) → get_or (map (λ x. length x) xs) d 0 ≡ length (get_or xs d [])
+length_at d [] = refl
+length_at zero (x ∷ xs) = refl
+length_at (suc d) (x ∷ xs) = length_at d xs
+
+lengths : {X Y : Type 0} (items : Y → List X) (ys : List Y) → map (λ x. length x) (map items ys) ≡ map (λ y. length (items y)) ys
+lengths items [] = refl
+lengths items (y ∷ ys) = ap (λ l. length (items y) ∷ l) (lengths items ys)
+
+-- rooms that are the lengths of lists
+pub rooms_are : {X Y Z : Type 0} (items : Y → List X) (room : Z → ℕ) (ys : List Y) (zs : List Z) (xs : List (List X)) → map room zs ≡ map (λ y. length (items y)) ys → map items ys ≡ xs → (d : ℕ) → get_or (map (λ x. length x) xs) d 0 ≤ get_or (map room zs) d 0
+rooms_are items room ys zs xs rooms same d =
+    let e = ap (λ (l : List ℕ). get_or l d 0) (ap (λ l. map (λ x. length x) l) (sym same) ∙ lengths items ys ∙ sym rooms) in
+    omega arith
 
 -- ---- acts
 

@@ -1,7 +1,10 @@
 -- Turns make a round, and rounds the round robin.
-use Rattle.std.proofs.Common.{◌≡◌, ◌<◌, ◌≤◌, ◌+◌, ◌-◌, ◌^◌, ℕ, zero, suc, List, [], ◌∷◌, length, take, get_or, fold, refl, sym, ap, ◌∙◌, subst, arith}
+use Rattle.std.proofs.Common.{◌≡◌, ◌<◌, ◌≤◌, ◌+◌, ◌-◌, ◌^◌, ℕ, zero, suc, List, [], ◌∷◌, length, map, take, get_or, fold, All, refl, sym, ap, ◌∙◌, subst, arith}
 use Rattle.std.specs.List.{AllByRecursion}
-use Rattle.std.proofs.lemmas.List.{take_all}
+use Rattle.std.proofs.lemmas.List.{take_all, length-map}
+use Rattle.mpb_spec.specs.declared.account.Account.{Account}
+use Rattle.mpb_spec.specs.Pulses.{HasCountsFor, counts_of}
+use Rattle.mpb_run.proofs.ListLemmas.{map_at}
 use Rattle.std.proofs.lemmas.List.Sums.{fold_more}
 use Rattle.std.proofs.lemmas.Bool.{cases_eq}
 use Rattle.std.proofs.Common.{inl, inr}
@@ -12,17 +15,18 @@ use Rattle.mpb_spec.specs.Configs.{IsConfig, IsStartableAt}
 use Rattle.mpb_spec.specs.Journal.{IsComplete}
 use Rattle.mpb_start_laws.specs.Starts.{IsStartedOnce}
 use Rattle.mpb_start_laws.proofs.StartedOnce.{started_once}
-use Rattle.mpb_latch.specs.declared.pulse.Pulse.{Pulse}
-use Rattle.mpb_latch.specs.declared.pulse.Hit.{Hit}
-use Rattle.mpb_run_laws.specs.Account.{AccountsForPulses, collected_count}
-use Rattle.mpb_run_laws.proofs.Ends.{complete, accounts}
+use Rattle.mpb_spec.specs.declared.pulse.Pulse.{Pulse}
+use Rattle.mpb_spec.specs.declared.pulse.Hit.{Hit}
+use Rattle.mpb_robin.specs.Account.{AccountsForPulses, collected_count}
+use Rattle.mpb_robin.proofs.Ends.{complete, accounts}
 use Rattle.mpb_spec.specs.Room.{room}
 use Rattle.mpb_spec.specs.May.{IsQuiescent}
-use Rattle.mpb_run_laws.specs.RoundRobin.{Run, state_in, turn, round, rounds, first_run, agents_of, IsRoundRobinEnd, IsRoundRobinOf}
-use Rattle.mpb_run_laws.specs.Rest.{IsRun, IsAgentOf, done_in}
-use Rattle.mpb_run_laws.proofs.Turns.{plan_stays}
-use Rattle.mpb_run_laws.proofs.Progress.{agents_are, bounded}
-use Rattle.mpb_run_laws.proofs.Rounds.{turn_keeps, goes_on, rounds_are}
+use Rattle.mpb_robin.specs.RoundRobin.{Run, state_in, turn, round, rounds, first_run, IsRoundRobinEnd, IsRoundRobinOf}
+use Rattle.mpb_spec.specs.Agents.{agents_of}
+use Rattle.mpb_robin.specs.Rest.{IsRun, IsAgentOf, done_in}
+use Rattle.mpb_robin.proofs.Turns.{plan_stays}
+use Rattle.mpb_robin.proofs.Progress.{agents_are, bounded}
+use Rattle.mpb_robin.proofs.Rounds.{turn_keeps, goes_on, rounds_are}
 
 -- the run after turns of these agents
 pub record IsAfter (start : Run) (done : List Agent) (r : Run) : Type 0 where
@@ -64,6 +68,14 @@ pub record IsAfterRounds (c : Plan) (r : Run) : Type 0 where
 
 pub no_round : (r : Run) → r ≡ first_run r.plan → IsAfterRounds r.plan r
 no_round r e = record { count = 0; run = e; before = λ n l. absurd (omega arith) }
+
+-- so many lists of 24 numbers
+shaped : {V : Type 0} (items : V → List ℕ) (rows : List V) (n : ℕ) (counts : List (List ℕ)) → map items rows ≡ counts → length counts ≡ n → ((a : ℕ) → a < n → length (get_or counts a []) ≡ 24) → (length rows ≡ n) × All (λ row. length (items row) ≡ 24) rows
+shaped items rows n counts same many wide =
+    let long : length rows ≡ n = sym (length-map rows items) ∙ (ap (λ (l : List (List ℕ)). length l) same ∙ many) in (
+      long,
+      λ k d l. ap (λ (l : List ℕ). length l) (sym (map_at items k rows d [] l)) ∙ (ap (λ (l : List (List ℕ)). length (get_or l k [])) same ∙ wide k (omega arith)),
+    )
 
 module _ (c : Plan) (config : IsConfig c) (small : plan_size c < 2 ^ 32) where
   pub is_run : (r : Run) → IsAfterRounds c r → IsRun r
@@ -123,6 +135,10 @@ module _ (c : Plan) (r : Run) (journal : List Entry) (logs : List (List (Pulse �
 
   pub counts_each : (a pin : ℕ) → a < length c.ios → pin < 24 → get_or (get_or counts a []) pin 0 ≡ collected_count a pin journal
   counts_each a pin l m = ap (λ rows. get_or (get_or rows a []) pin 0) counts_are ∙ is-run.counted a pin (let e = ap (λ (d : Plan). length d.ios) plan-is in omega arith) m ∙ ap (collected_count a pin) (sym journal_is)
+
+  -- 24 counts for each I/O APIC
+  pub counts_shape : (account : Account) → counts_of account ≡ counts → HasCountsFor (length c.ios) account
+  counts_shape account theirs = shaped (λ row. row.items) account.collected.items (length c.ios) r.counts (theirs ∙ counts_are) (is-run.counts ∙ ap (λ (d : Plan). length d.ios) plan-is) (λ a l. is-run.wide a (let e = ap (λ (d : Plan). length d.ios) plan-is in omega arith))
 
   pub started_once_at : (page : ℕ) → IsStartableAt page c → IsStartedOnce page c journal
   started_once_at page startable = started_once page c journal config startable is_complete

@@ -1,7 +1,7 @@
-//! Runs of a board to its end (this project's own): the round robin on one thread.
+//! The round robin of a board (this project's own; docs/PROFILE.md): all agents take turns on one thread,
+//! to the board's end.
 #![tactic(auto)]
 
-mod agents;
 mod lists;
 mod ran;
 mod robin;

@@ -1,11 +1,12 @@
 //! What a run keeps for the account: one thing more of a device, of an I/O APIC.
 
-ghost use Rattle.std.specs.Prelude.{◌≡◌, ◌<◌, ◌^◌, ◌+◌, ◌++◌, ◌∷◌, [], ℕ, suc, IfOk, OnOk, map, length, slice_index, slice_index_or, replicate};
+ghost use Rattle.std.specs.Prelude.{◌≡◌, ◌≤◌, ◌<◌, ◌^◌, ◌+◌, ◌++◌, ◌∷◌, [], ℕ, suc, IfOk, map, length, slice_index, slice_index_or, replicate, vec_capacity};
 ghost use Rattle.std.specs.Int.{bit_at};
 ghost use Rattle.mpb_spec.specs.State.{change_at};
-ghost use Rattle.mpb_latch.specs.Pulses.{with_pins};
+ghost use Rattle.mpb_spec.specs.Pulses.{with_pins};
 
-use mpb_latch::{Hit, Pulse, add_pins};
+use mpb_latch::add_pins;
+use mpb_spec::{DevWord, Hit, Pulse};
 use std::alloc::{AllocError, Global};
 
 /// The device has done one thing more.
@@ -17,18 +18,14 @@ pub(crate) fn one_more(made: &mut Vec<usize>, device: usize)
     made[device] += 1;
 }
 
-/// The device's log has one pulse more, with its answer.
-pub(crate) fn log_hit(
-    logs: &mut Vec<Vec<(Pulse, Hit)>>,
-    device: usize,
-    pulse: Pulse,
-    hit: Hit,
-) -> Result<(), AllocError>
-    requires { device < length logs.old.items }
-    ensures { OnOk result (map (λ l. l.items) logs.new.items ≡ change_at device (λ l. l ++ (pulse, hit) ∷ []) (map (λ l. l.items) logs.old.items)) }
+/// The device's log, which has room for it, has one pulse more, with its answer.
+pub(crate) fn log_hit(logs: &mut Vec<Vec<(Pulse, Hit)>>, device: usize, pulse: Pulse, hit: Hit)
+    requires there { device < length logs.old.items }
+    requires room { length (slice_index_or (map (λ l. l.items) logs.old.items) device []) < slice_index (map (λ l. vec_capacity l) logs.old.items) device }
+    ensures logs { map (λ l. l.items) logs.new.items ≡ change_at device (λ l. l ++ (pulse, hit) ∷ []) (map (λ l. l.items) logs.old.items) }
+    ensures room { (d : ℕ) → slice_index (map (λ l. vec_capacity l) logs.old.items) d ≤ slice_index (map (λ l. vec_capacity l) logs.new.items) d }
 {
-    logs[device].push((pulse, hit))?;
-    Ok(())
+    logs[device].push((pulse, hit)).unwrap();
 }
 
 /// The pins of the I/O APIC are counted as collected once more.
@@ -48,13 +45,17 @@ pub(crate) fn none_made(alloc: Global, n: usize) -> Result<Vec<usize>, AllocErro
     vec![in alloc; 0; n]
 }
 
-/// No device has pulsed.
-pub(crate) fn no_logs(alloc: Global, n: usize) -> Result<Vec<Vec<(Pulse, Hit)>>, AllocError>
-    ensures { IfOk result (λ logs. map (λ l. l.items) logs.items ≡ replicate n []) }
+/// No device has pulsed. Each log has room for a pulse at each of the device's words.
+pub(crate) fn no_logs(
+    alloc: Global,
+    devices: &[Vec<DevWord>],
+) -> Result<Vec<Vec<(Pulse, Hit)>>, AllocError>
+    ensures logs { IfOk result (λ logs. map (λ l. l.items) logs.items ≡ replicate (length devices.now) []) }
+    ensures room { IfOk result (λ logs. map (λ l. vec_capacity l) logs.items ≡ map (λ words. length words.items) devices.now) }
 {
     let mut logs = Vec::new(alloc);
-    for _ in 0..n {
-        logs.push(Vec::new(alloc))?;
+    for words in devices {
+        logs.push(Vec::with_capacity(alloc, words.len())?)?;
     }
     Ok(logs)
 }

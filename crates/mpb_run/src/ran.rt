@@ -1,7 +1,7 @@
 //! A board at its end.
 
 use mpb_board::Board;
-use mpb_latch::Account;
+use mpb_spec::Account;
 
 /// A board that has come to its end, and what its devices pulsed.
 #[derive(Drop)]

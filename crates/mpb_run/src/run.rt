@@ -1,25 +1,26 @@
 //! A run so far.
 
-ghost use Rattle.std.specs.Prelude.{◌≡◌, ◌≤◌, ◌<◌, ◌^◌, ◌+◌, [], ℕ, None, Some, IfOk, OnOk, IsTrue, ◌↔◌, MatchBool, is_some, length, slice_get, slice_index, slice_index_or};
+ghost use Rattle.std.specs.Prelude.{◌≡◌, ◌≤◌, ◌<◌, ◌^◌, ◌+◌, [], ℕ, None, Some, IfOk, IsTrue, ◌↔◌, MatchBool, is_some, length, slice_get, slice_index, slice_index_or};
 ghost use Rattle.std.specs.Int.{bit_at};
 ghost use Rattle.mpb_spec.specs.May.{MayStep, IsQuiescent};
 ghost use Rattle.mpb_spec.specs.Steps.{next_op};
-ghost use Rattle.mpb_latch.specs.PlainLatch.{pins_at};
-ghost use Rattle.mpb_latch.specs.Pulses.{logs_of, counts_of};
-ghost use Rattle.mpb_run_laws.specs.RoundRobin.{state_in, first_run, with_step, with_taken, with_counted, with_made, with_pulse, with_end, next_act, acts_of};
+ghost use Rattle.mpb_spec.specs.PlainLatch.{pins_at};
+ghost use Rattle.mpb_spec.specs.Pulses.{logs_of, counts_of};
+ghost use Rattle.mpb_robin.specs.RoundRobin.{state_in, first_run, with_step, with_taken, with_counted, with_made, with_pulse, with_end, next_act, acts_of};
 
 use crate::lists::{count_pins, log_hit, no_counts, no_logs, none_made, one_more};
 use crate::ran::Ran;
 use mpb_board::Board;
-use mpb_latch::{Account, Hit, PlainLatch, Pulse};
-use mpb_run_laws::Act;
-use mpb_spec::{Agent, DevWord, Offer};
+use mpb_latch::PlainLatch;
+use mpb_robin::Act;
+use mpb_spec::{Account, Agent, DevWord, Hit, Offer, Pulse};
 use mpt_base::NoMemory;
 use std::alloc::Global;
 use std::marker::Model;
 
 /// A board under way, its latch, and what is kept for the account: how many things each device has
-/// done, its log, and how often each pin was collected.
+/// done, its log, and how often each pin was collected. Each log has room for a pulse at each of the
+/// device's words.
 #[derive(Drop)]
 pub(crate) struct Run {
     board: Board,
@@ -30,16 +31,18 @@ pub(crate) struct Run {
 }
 
 impl Model for Run {
-    ghost use Rattle.std.specs.Prelude.{map};
-    ghost use Rattle.mpb_run_laws.specs.RoundRobin.{Run as RunOf};
+    ghost use Rattle.std.specs.Prelude.{◌≤◌, ℕ, map, length, slice_index, vec_capacity};
+    ghost use Rattle.mpb_robin.specs.RoundRobin.{Run as RunOf};
 
     ghost Value = { RunOf };
 
     ghost view = { λ r. record { plan = r.board.plan; journal = r.board.journal; latch = r.latch; made = r.made.items; logs = map (λ l. l.items) r.logs.items; counts = map (λ l. l.items) r.counts.items } };
+
+    ghost invariant = { λ r. (d : ℕ) → slice_index (map (λ words. length words) r.board.plan.devices) d ≤ slice_index (map (λ l. vec_capacity l) r.logs.items) d };
 }
 
 impl Run {
-    /// The run of a board whose journal is empty.
+    /// The run of a board whose journal is empty. It takes all memory that the run will want.
     pub(crate) fn new(alloc: Global, board: Board) -> Result<Run, NoMemory>
         requires opening { board.journal ≡ [] }
         ensures { IfOk result (λ r. r ≡ first_run board.plan) }
@@ -49,7 +52,7 @@ impl Run {
         let Ok(made) = none_made(alloc, devices) else {
             return Err(NoMemory);
         };
-        let Ok(logs) = no_logs(alloc, devices) else {
+        let Ok(logs) = no_logs(alloc, board.config().devices.as_slice()) else {
             return Err(NoMemory);
         };
         let Ok(counts) = no_counts(alloc, ios) else {
@@ -71,22 +74,12 @@ impl Run {
         self.board.quiet()
     }
 
-    /// Whether the agent may step with the offer.
-    pub(crate) fn can_step(&self, agent: Agent, offer: Offer) -> bool
-        ensures { result ≡ is_some (next_op (state_in self.now) agent offer) }
+    /// One step of the agent with the offer, where it may make one, and whether it did.
+    pub(crate) fn advance(&mut self, agent: Agent, offer: Offer) -> bool
+        ensures made { result ≡ is_some (next_op (state_in self.old) agent offer) }
+        ensures run { self.new ≡ with_step agent offer self.old }
     {
-        self.board.can_step(agent, offer)
-    }
-
-    /// One step of the agent with the offer.
-    pub(crate) fn step(&mut self, agent: Agent, offer: Offer) -> Result<(), NoMemory>
-        requires { MayStep (state_in self.old) agent offer }
-        ensures { OnOk result (self.new ≡ with_step agent offer self.old) }
-    {
-        match self.board.step(agent, offer) {
-            Ok(_) => Ok(()),
-            Err(error) => Err(error),
-        }
+        self.board.advance(agent, offer)
     }
 
     /// Takes the latch word of an I/O APIC.
@@ -134,18 +127,16 @@ impl Run {
         one_more(&mut self.made, device as usize);
     }
 
-    /// The device pulses.
-    pub(crate) fn pulse(&mut self, device: u8, pulse: Pulse) -> Result<(), NoMemory>
+    /// The device, whose log is shorter than its words, pulses.
+    pub(crate) fn pulse(&mut self, device: u8, pulse: Pulse)
         requires there { device < length self.old.logs }
+        requires room { length (slice_index_or self.old.logs device []) < length (slice_index_or self.old.plan.devices device []) }
         requires io { pulse.io < length self.old.latch.pins }
         requires pin { pulse.pin < 24 }
-        ensures { OnOk result (self.new ≡ with_pulse device pulse self.old) }
+        ensures { self.new ≡ with_pulse device pulse self.old }
     {
         let hit = self.latch.pulse(pulse);
-        match log_hit(&mut self.logs, device as usize, pulse, hit) {
-            Ok(()) => Ok(()),
-            Err(_) => Err(NoMemory),
-        }
+        log_hit(&mut self.logs, device as usize, pulse, hit);
     }
 
     /// The board and the account.

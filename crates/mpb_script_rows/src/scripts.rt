@@ -83,7 +83,7 @@ present = [0, 7, 7]
 
 [[cpu]]
 id = 7
-words = [\"ipi 1 0xfF\", \"nmi 2\", \"take\", \"poll\", \"eoi\", \"tpr 48\", \"iosel 3 0x10\", \"iowin 2 0xFFFFFFFF\", \"ioread 1\", \"pause 1000000\"]
+words = [\"ipi 1 0xfF\", \"nmi 2\", \"take\", \"poll\", \"eoi\", \"tpr 48\", \"iosel 3 0x10\", \"iowin 2 0xFFFFFFFF\", \"ioread 1\", \"pause 1000000\", \"ldr 0x80\", \"dfr 15\", \"ipl 3 64\"]
 
 [[cpu]]
 id = 0
@@ -106,6 +106,9 @@ words = [\"pulse 0 23\", \"high 1 2\", \"low 3 0\"]
         Op::IoWin(2, 0xFFFF_FFFF),
         Op::IoRead(1),
         Op::Pause(1_000_000),
+        Op::Ldr(0x80),
+        Op::Dfr(15),
+        Op::Ipl(3, 64),
     ];
     has_cpu(&rt, &script, 0, 7, &program);
     has_cpu(&rt, &script, 1, 0, &[]);

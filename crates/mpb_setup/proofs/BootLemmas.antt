@@ -10,12 +10,11 @@ use Rattle.mpt_route.specs.declared.route.Answer.TheVariants as answer
 use Rattle.mpt_route.specs.Routes.{routes_of}
 use Rattle.mpb_spec.specs.declared.agent.Op.{Op}
 use Rattle.mpb_spec.specs.declared.agent.Op.TheVariants as op
-use Rattle.mpb_spec.specs.Numbers.{has}
+use Rattle.mpb_spec.specs.Numbers.{has, AreBytes}
 use Rattle.mpb_spec.specs.Configs.{IsOther, IsOpOn, IsAimed, IsAtPage, is_boot_op}
 use Rattle.mpb_spec.specs.Room.{is_write, is_eoi}
 use Rattle.mpb_setup.specs.Boot.{boot_id_of, is_enabled, other_processors, start_ops, row_ops, imcr_ops, boot_program_of}
 use Rattle.mpb_setup.specs.Board.{enabled_ids, io_ids}
-use Rattle.mpb_setup.specs.Steps.{AreBytes}
 use Rattle.mpb_setup.specs.Faults.{least_double}
 use Rattle.mpb_setup.proofs.ListLemmas.{all-append, all-flat_map, all-weaker, few-bytes}
 use Rattle.mpb_setup.proofs.PinLemmas.{HasPlace, on_places, few_pins, rows_length, rows_writes, rows_ends}

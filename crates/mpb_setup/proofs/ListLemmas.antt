@@ -5,10 +5,9 @@ use Rattle.std.proofs.lemmas.List.Sums.{sum_by-cons}
 use Rattle.std.proofs.lemmas.Bool.{ne_eqb, eq-eqb, eqb-true, eqb-false, ltb-false, cases_eq}
 use Rattle.std.proofs.lemmas.List.FromFn.{length-range_with_len}
 use Rattle.std.proofs.lemmas.Map.Steps.{length-le_from_distinct_below}
-use Rattle.mpb_spec.specs.Numbers.{has, IsAscending}
+use Rattle.mpb_spec.specs.Numbers.{has, IsAscending, AreBytes}
 use Rattle.mpb_setup.specs.Board.{all_ids}
 use Rattle.mpb_setup.specs.Faults.{least_double}
-use Rattle.mpb_setup.specs.Steps.{AreBytes}
 
 -- what holds of each member of two lists, of a filter, of a map
 pub all-append : {X : Type 0} (P : X → Type 0) (xs ys : List X) → AllByRecursion P xs → AllByRecursion P ys → AllByRecursion P (xs ++ ys)

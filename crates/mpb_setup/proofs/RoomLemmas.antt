@@ -12,7 +12,7 @@ use Rattle.mpb_spec.specs.declared.agent.Op.{Op}
 use Rattle.mpb_spec.specs.declared.agent.Op.TheVariants as op
 use Rattle.mpb_spec.specs.declared.config.DevWord.{DevWord}
 use Rattle.mpb_spec.specs.declared.config.DevWord.TheVariants as word
-use Rattle.mpb_spec.specs.Numbers.{IsAscending}
+use Rattle.mpb_spec.specs.Numbers.{IsAscending, AreBytes}
 use Rattle.mpb_spec.specs.Plan.{Plan, CpuPlan, op_of_word, device_program, plan_size}
 use Rattle.mpb_spec.specs.Room.{is_pulse, is_high, is_write, is_eoi, room}
 use Rattle.mpb_script.specs.declared.script.Script.{Script}
@@ -21,7 +21,6 @@ use Rattle.mpb_script.specs.Values.{HasScriptValues}
 use Rattle.mpb_setup.specs.Boot.{boot_id_of, boot_program_of}
 use Rattle.mpb_setup.specs.Board.{enabled_ids, io_ids, board_ids, cpu_words, cpu_plan_of, board_config_of}
 use Rattle.mpb_setup.specs.Faults.{board_fault_of}
-use Rattle.mpb_setup.specs.Steps.{AreBytes}
 use Rattle.mpb_setup.proofs.FaultLemmas.{no_fault}
 use Rattle.mpb_setup.proofs.BoardLemmas.{ids_ascending}
 use Rattle.mpb_setup.proofs.BootLemmas.{boot_short, boot_writes, boot_ends}

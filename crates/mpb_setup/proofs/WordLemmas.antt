@@ -10,6 +10,7 @@ use Rattle.mpb_spec.specs.declared.config.DevWord.TheVariants as word
 use Rattle.mpb_spec.specs.Numbers.{has}
 use Rattle.mpb_spec.specs.Configs.{IsWordOn, IsOpOn, IsAimed, IsAtPage, is_script_op}
 use Rattle.mpb_words.specs.Values.{IsCpuWord, IsDeviceWord}
+use Rattle.mpb_words.proofs.CallerLemmas.{two_models}
 use Rattle.mpb_script.specs.declared.script.Script.{Script}
 use Rattle.mpb_script.specs.declared.script.CpuScript.{CpuScript}
 use Rattle.mpb_setup.specs.Board.{cpu_words}
@@ -50,11 +51,14 @@ below n a l h = elim (cases_lt a n) [ inl lt ↦ lt | inr le ↦ absurd (let off
 
 script_op : (n boot page : ℕ) (o : Op) → IsCpuWord o → ((a : ℕ) → n ≤ a → a < 4 → is_op_at a o ≡ false) → IsScriptOp n boot page o
 script_op n boot page (op.Ipi d v) h k = record { kind = refl; place = tt; target = tt; page = tt }
+script_op n boot page (op.Ipl d v) h k = record { kind = refl; place = tt; target = tt; page = tt }
 script_op n boot page (op.Nmi d) h k = record { kind = refl; place = tt; target = tt; page = tt }
 script_op n boot page op.Take h k = record { kind = refl; place = tt; target = tt; page = tt }
 script_op n boot page op.Poll h k = record { kind = refl; place = tt; target = tt; page = tt }
 script_op n boot page op.Eoi h k = record { kind = refl; place = tt; target = tt; page = tt }
 script_op n boot page (op.Tpr t) h k = record { kind = refl; place = tt; target = tt; page = tt }
+script_op n boot page (op.Ldr t) h k = record { kind = refl; place = tt; target = tt; page = tt }
+script_op n boot page (op.Dfr t) h k = record { kind = two_models t h; place = tt; target = tt; page = tt }
 script_op n boot page (op.IoSel a r) h k = record { kind = refl; place = below n a h.0 k; target = tt; page = tt }
 script_op n boot page (op.IoWin a v) h k = record { kind = refl; place = below n a h.0 k; target = tt; page = tt }
 script_op n boot page (op.IoRead a) h k = record { kind = refl; place = below n a h k; target = tt; page = tt }

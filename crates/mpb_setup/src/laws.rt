@@ -1,11 +1,16 @@
 //! What the least ones are that a fault names, and who is on a board.
 
-ghost use Rattle.std.specs.Prelude.{◌≡◌, ◌==◌, ◌<◌, ◌≤◌, ◌&&◌, ℕ, List, count_by, None, Some, true, false};
+ghost use Rattle.std.specs.Prelude.{◌≡◌, ◌==◌, ◌<◌, ◌≤◌, ◌^◌, ◌&&◌, ℕ, List, count_by, None, Some, true, false};
 ghost use Rattle.mpt_route.specs.declared.platform.Platform.{Platform as APlatform};
-ghost use Rattle.mpb_spec.specs.Numbers.{has, IsAscending};
+ghost use Rattle.mpt_route.specs.Routes.{routes_of};
+ghost use Rattle.mpb_spec.specs.Configs.{IsConfig, IsStartableAt};
+ghost use Rattle.mpb_spec.specs.Numbers.{has, AreBytes, IsAscending};
+ghost use Rattle.mpb_spec.specs.Plan.{plan_size};
+ghost use Rattle.mpb_spec.specs.Room.{room};
+ghost use Rattle.mpb_script.specs.Values.{HasScriptValues};
 ghost use Rattle.mpb_script.specs.declared.script.Script.{Script as AScript};
-ghost use Rattle.mpb_setup.specs.Board.{enabled_ids, is_present, board_ids};
-ghost use Rattle.mpb_setup.specs.Faults.{least_double, names_place, least_absent_place};
+ghost use Rattle.mpb_setup.specs.Board.{enabled_ids, is_present, board_ids, board_config_of};
+ghost use Rattle.mpb_setup.specs.Faults.{board_fault_of, least_double, names_place, least_absent_place};
 
 /// The id that a fault names as doubled is one that two share, and no lesser id is; where none is named,
 /// no two bytes are one.
@@ -28,4 +33,13 @@ pub fn absent_places_are_least()
 pub fn boards_have_who_is_enabled_and_present()
     ensures ascending { (p : APlatform) (s : AScript) → IsAscending (board_ids p s) }
     ensures members { (p : APlatform) (s : AScript) (id : ℕ) → id < 256 → has id (board_ids p s) ≡ (has id (enabled_ids p) && is_present s.present id) }
+{}
+
+/// Where a platform and a script have no fault, their board is a config, startable at the script's page,
+/// with fewer than 2^32 ops and pulses and a room below 850,000. The ids are those of bytes.
+pub fn boards_without_a_fault_are_configs()
+    ensures config { (p : APlatform) (s : AScript) → board_fault_of p s ≡ None → HasScriptValues s → IsConfig (board_config_of p (routes_of p s.elcr) s) }
+    ensures startable { (p : APlatform) (s : AScript) → board_fault_of p s ≡ None → HasScriptValues s → IsStartableAt s.page (board_config_of p (routes_of p s.elcr) s) }
+    ensures small { (p : APlatform) (s : AScript) → board_fault_of p s ≡ None → HasScriptValues s → AreBytes (enabled_ids p) → plan_size (board_config_of p (routes_of p s.elcr) s) < 2 ^ 32 }
+    ensures room { (p : APlatform) (s : AScript) → board_fault_of p s ≡ None → HasScriptValues s → AreBytes (enabled_ids p) → room (board_config_of p (routes_of p s.elcr) s) < 850000 }
 {}

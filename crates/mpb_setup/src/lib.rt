@@ -13,6 +13,7 @@ mod setup;
 
 pub use boot::boot_ops;
 pub use laws::{
-    absent_places_are_least, boards_have_who_is_enabled_and_present, doubled_ids_are_least,
+    absent_places_are_least, boards_have_who_is_enabled_and_present,
+    boards_without_a_fault_are_configs, doubled_ids_are_least,
 };
 pub use setup::config;

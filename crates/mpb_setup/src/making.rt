@@ -6,7 +6,7 @@ ghost use Rattle.mpb_script.specs.Values.{HasScriptValues};
 ghost use Rattle.mpb_setup.specs.Boot.{boot_id_of};
 ghost use Rattle.mpb_setup.specs.Board.{enabled_ids, io_ids, board_ids, board_config_of};
 ghost use Rattle.mpb_setup.specs.Faults.{board_fault_of};
-ghost use Rattle.mpb_setup.specs.Steps.{AreBytes};
+ghost use Rattle.mpb_spec.specs.Numbers.{AreBytes};
 
 use crate::boot::program;
 use crate::programs::{cpu_configs, device_words};

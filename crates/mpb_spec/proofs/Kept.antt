@@ -6,7 +6,7 @@ use Rattle.mpb_spec.specs.declared.apic.Delivery.{Delivery}
 use Rattle.mpb_spec.specs.declared.apic.Delivery.TheVariants as sends
 use Rattle.mpb_spec.specs.LocalApic.{LocalApic, taken, after_end}
 use Rattle.mpb_spec.specs.State.{Processor, BoardState, runs, processor_of, change_processor, op_at}
-use Rattle.mpb_spec.specs.Delivery.{delivered_to, received, is_target}
+use Rattle.mpb_spec.specs.Delivery.{delivered_to, received, is_target, to_id, to_logical}
 use Rattle.mpb_spec.specs.Steps.{effect_of_cpu, with_apic}
 
 -- the same id, and the same op next
@@ -49,19 +49,22 @@ received-alike warm sends.Pass p = itself p
 received-alike warm sends.Init p = record { id = refl; program = refl; position = refl }
 received-alike warm (sends.Startup page) p = record { id = refl; program = refl; position = refl }
 
-delivered-alike : (warm : Option ℕ) (all dest : ℕ) (d : Delivery) (p : Processor) → IsAlike p (delivered_to warm all dest d p)
-delivered-alike warm all dest d p = elim (is_target all dest p) as (λ b. IsAlike p (cond b (received warm d p) p)) [ true ↦ received-alike warm d p | false ↦ itself p ]
+delivered-alike : (warm : Option ℕ) (test : Processor → Bool) (d : Delivery) (p : Processor) → IsAlike p (delivered_to warm test d p)
+delivered-alike warm test d p = elim (test p) as (λ b. IsAlike p (cond b (received warm d p) p)) [ true ↦ received-alike warm d p | false ↦ itself p ]
 
 apic-alike : (f : LocalApic → LocalApic) (p : Processor) → IsAlike p (with_apic f p)
 apic-alike f p = record { id = refl; program = refl; position = refl }
 
 pub kept_op : (id : ℕ) (o : Op) (s : BoardState) → op_at (processor_of id (effect_of_cpu id o s).processors) ≡ op_at (processor_of id s.processors)
-kept_op id (op.Init d) s = mapped id _ s.processors (delivered-alike s.warm 255 d sends.Init)
-kept_op id (op.Startup d page) s = mapped id _ s.processors (delivered-alike s.warm 255 d (sends.Startup page))
-kept_op id (op.Ipi d v) s = mapped id _ s.processors (delivered-alike s.warm 255 d (sends.Fixed v false))
-kept_op id (op.Nmi d) s = mapped id _ s.processors (delivered-alike s.warm 255 d sends.Nmi)
+kept_op id (op.Init d) s = mapped id _ s.processors (delivered-alike s.warm (is_target (to_id d) s.processors) sends.Init)
+kept_op id (op.Startup d page) s = mapped id _ s.processors (delivered-alike s.warm (is_target (to_id d) s.processors) (sends.Startup page))
+kept_op id (op.Ipi d v) s = mapped id _ s.processors (delivered-alike s.warm (is_target (to_id d) s.processors) (sends.Fixed v false))
+kept_op id (op.Ipl d v) s = mapped id _ s.processors (delivered-alike s.warm (is_target (to_logical d) s.processors) (sends.Fixed v false))
+kept_op id (op.Nmi d) s = mapped id _ s.processors (delivered-alike s.warm (is_target (to_id d) s.processors) sends.Nmi)
 kept_op id op.Take s = changed id id _ s.processors (apic-alike taken)
 kept_op id op.Poll s = changed id id _ s.processors (apic-alike taken)
 kept_op id op.Eoi s = changed id id _ s.processors (apic-alike after_end)
 kept_op id (op.Tpr n) s = changed id id _ s.processors (apic-alike (λ a. record a { tpr = n }))
+kept_op id (op.Ldr n) s = changed id id _ s.processors (apic-alike (λ a. record a { ldr = n }))
+kept_op id (op.Dfr n) s = changed id id _ s.processors (apic-alike (λ a. record a { dfr = n }))
 kept_op id o s = refl

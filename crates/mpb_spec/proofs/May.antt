@@ -36,7 +36,7 @@ of_device : (b : Bool) (d : Option Device) (o : Op) → op_of_device b d ≡ Som
 of_device b None o e = cc
 of_device b (Some d) o e = begins b (slice_get d.program d.position) o e
 
-may_cpu : (s : BoardState) (id : ℕ) (f : Offer) (o : Op) → next_op s (Cpu id) f ≡ Some o → op_at (processor_of id s.processors) ≡ Some o
+pub may_cpu : (s : BoardState) (id : ℕ) (f : Offer) (o : Op) → next_op s (Cpu id) f ≡ Some o → op_at (processor_of id s.processors) ≡ Some o
 may_cpu s id offer.Next o e = of_processor (processor_of id s.processors) o e
 may_cpu s id (offer.Collect m) o e = cc
 may_cpu s id offer.Sweep o e = cc

@@ -1,8 +1,10 @@
 -- What the type of a config keeps (this project's own).
 --     IsConfig c             the plan is one of a board
 --     IsStartableAt page c   its boot program starts each other processor at the page
-use Rattle.std.specs.Prelude.{◌≡◌, ◌≢◌, ◌≤◌, ◌<◌, ◌==◌, ℕ, Bool, true, false, List, ◌∷◌, ◌++◌, length, take, drop, map, nat_le, if◌then◌else◌}
+use Rattle.std.specs.Prelude.{◌≡◌, ◌≢◌, ◌≤◌, ◌<◌, ◌==◌, ◌⊎◌, ℕ, Bool, true, false, ◌||◌, List, ◌∷◌, ◌++◌, length, take, drop, map, nat_le, if◌then◌else◌}
 use Rattle.std.specs.List.{AllByRecursion, Contains}
+use Rattle.mpb_spec.specs.declared.agent.Agent.{Agent}
+use Rattle.mpb_spec.specs.declared.agent.Agent.TheVariants.{Cpu, Io, Dev}
 use Rattle.mpb_spec.specs.declared.agent.Op.{Op}
 use Rattle.mpb_spec.specs.declared.agent.Op.TheVariants as op
 use Rattle.mpb_spec.specs.declared.config.DevWord.{DevWord}
@@ -35,19 +37,33 @@ is_boot_op (op.IoSel a r) = true
 is_boot_op (op.IoWin a v) = true
 is_boot_op o = false
 
--- the ops of a processor's script: a pause is of at most a second
+-- the ops of a processor's script: a model of logical destinations is 0 or 15, and a pause is of at most a second
 abbrev pub is_script_op : Op → Bool
 is_script_op (op.Ipi d v) = true
+is_script_op (op.Ipl d v) = true
 is_script_op (op.Nmi d) = true
 is_script_op op.Take = true
 is_script_op op.Poll = true
 is_script_op op.Eoi = true
 is_script_op (op.Tpr t) = true
+is_script_op (op.Ldr n) = true
+is_script_op (op.Dfr n) = (n == 0) || (n == 15)
 is_script_op (op.IoSel a r) = true
 is_script_op (op.IoWin a v) = true
 is_script_op (op.IoRead a) = true
 is_script_op (op.Pause t) = nat_le t 1000000
 is_script_op o = false
+
+-- a model that the op sets is 0 or 15
+abbrev pub IsModelled : Op → Type 0
+IsModelled (op.Dfr n) = (n ≡ 0) ⊎ (n ≡ 15)
+IsModelled o = Unit {0}
+
+-- of a processor; other agents set none
+abbrev pub IsModelledBy : Agent → Op → Type 0
+IsModelledBy (Cpu id) o = IsModelled o
+IsModelledBy (Io a) o = Unit {0}
+IsModelledBy (Dev d) o = Unit {0}
 
 -- a target of the boot program is another processor
 abbrev pub IsOther : ℕ → ℕ → Type 0

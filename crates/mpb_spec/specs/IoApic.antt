@@ -1,6 +1,6 @@
 -- An I/O APIC of 24 pins (82093AA datasheet, section 3). The pin states `line` and `due`, the meaning of high and low,
 -- what a mask does to a pending send, and the clearing of an edge pin's remote IRR are this project's own.
---     is_masked, mode_of, vector_of, is_level   what the low half of an entry says
+--     is_masked, mode_of, vector_of, is_level, is_logical, dest_of   what an entry says
 --     reset_chip id                  after a reset
 --     register c                     the selected register as it is read
 --     written v c, write_effect v c  what a write of the selected register leaves, and what it does to a pending send
@@ -114,10 +114,17 @@ abbrev pub mask_by : (Pin → Bool) → List Pin → ℕ
 mask_by f [] = 0
 mask_by f (p ∷ ps) = (if f p then 1 else 0) + 2 * mask_by f ps
 
+-- bit 11: the destination is logical
+abbrev pub is_logical : Pin → Bool
+is_logical p = p.low / 2048 % 2 == 1
+
+-- a logical destination is bits 63:56, a physical one bits 59:56
+abbrev pub dest_of : Pin → ℕ
+dest_of p = if is_logical p then p.high / 16777216 else p.high / 16777216 % 16
+
 -- the message of pin n
 abbrev pub message_of : ℕ → Pin → Message
-message_of n p =
-    record { pin = n; dest = p.high / 16777216 % 16; logical = p.low / 2048 % 2 == 1; mode = mode_of p; vector = vector_of p; level = is_level p }
+message_of n p = record { pin = n; dest = dest_of p; logical = is_logical p; mode = mode_of p; vector = vector_of p; level = is_level p }
 
 -- the message of the least due pin, the first of these being pin n
 abbrev pub next_due_from : ℕ → List Pin → Option Message

@@ -1,5 +1,5 @@
 -- A local APIC: vectors requested (IRR), in service (ISR) and level-triggered (TMR), and its priorities
--- (Intel SDM volume 3, sections 10.8.3 to 10.8.5).
+-- (Intel SDM volume 3, sections 10.8.3 to 10.8.5), and its logical destination (section 10.6.2.2).
 --     reset                  after a reset
 --     ppr a                  the processor priority
 --     next_vector a          the vector that is taken next
@@ -7,21 +7,25 @@
 --     accepted v level a     and what it leaves
 --     taken a                after a vector was taken
 --     ended a, after_end a   the interrupt whose service ends, and what that leaves
-use Rattle.std.specs.Prelude.{ℕ, ◌*◌, ◌/◌, Bool, List, [], Option, None, Some, nat_lt, nat_le, if◌then◌else◌}
+--     matches dest a         a logical destination is its own
+use Rattle.std.specs.Prelude.{◌==◌, ℕ, ◌*◌, ◌/◌, ◌%◌, Bool, not, ◌&&◌, ◌||◌, List, [], Option, None, Some, nat_lt, nat_le, if◌then◌else◌, bit_and}
 use Rattle.mpb_spec.specs.declared.apic.Accept.{Accept}
 use Rattle.mpb_spec.specs.declared.apic.Accept.TheVariants.{Set, Merged, Illegal}
 use Rattle.mpb_spec.specs.Numbers.{has, with_number, without, greatest}
 
--- requested, in service and level-triggered vectors, each list ascending, and the task priority
+-- requested, in service and level-triggered vectors, each list ascending, the task priority, the logical destination (bits
+-- 31:24 of the LDR), and its model (bits 31:28 of the DFR)
 pub record LocalApic : Type 0 where
   pub irr : List ℕ
   pub isr : List ℕ
   pub tmr : List ℕ
   pub tpr : ℕ
+  pub ldr : ℕ
+  pub dfr : ℕ
 
--- after a reset
+-- after a reset: no logical destination, in the flat model
 abbrev pub reset : LocalApic
-reset = record { irr = []; isr = []; tmr = []; tpr = 0 }
+reset = record { irr = []; isr = []; tmr = []; tpr = 0; ldr = 0; dfr = 15 }
 
 -- the processor priority, of the task priority and the greatest vector in service: that of the higher class, a class
 -- being a sixteenth of a vector, the task's where both are the same
@@ -77,3 +81,15 @@ after_end_of a (Some v) = record a { isr = without v a.isr }
 -- the local APIC after that end
 abbrev pub after_end : LocalApic → LocalApic
 after_end a = after_end_of a (greatest a.isr)
+
+-- flat model: some bit is set in both
+abbrev pub matches_flat : ℕ → LocalApic → Bool
+matches_flat dest a = (a.dfr == 15) && not (bit_and dest a.ldr == 0)
+
+-- cluster model: the same cluster in bits 7:4, and some bit of 3:0 is set in both
+abbrev pub matches_cluster : ℕ → LocalApic → Bool
+matches_cluster dest a = (a.dfr == 0) && ((dest / 16 == a.ldr / 16) && not (bit_and (dest % 16) (a.ldr % 16) == 0))
+
+-- a logical destination is its own: 255 is everyone's
+abbrev pub matches : ℕ → LocalApic → Bool
+matches dest a = (dest == 255) || (matches_flat dest a || matches_cluster dest a)

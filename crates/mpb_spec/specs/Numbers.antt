@@ -1,6 +1,7 @@
 -- Sets of numbers, each the one strictly ascending list of its members.
 --     has v xs           v is a member
 --     IsAscending xs     strictly ascending
+--     AreBytes xs        each is below 256
 --     with_number v xs   the set with v
 --     without v xs       the set without v
 --     greatest xs        the greatest member
@@ -15,6 +16,10 @@ has v xs = list_any (λ x. x == v) xs
 abbrev pub IsAscending : List ℕ → Type 0
 IsAscending [] = Unit {0}
 IsAscending (x ∷ xs) = AllByRecursion (λ y. x < y) xs × IsAscending xs
+
+-- each is below 256
+abbrev pub AreBytes : List ℕ → Type 0
+AreBytes xs = AllByRecursion (λ x. x < 256) xs
 
 -- the set with v: the lesser members, v, the greater ones
 abbrev pub with_number : ℕ → List ℕ → List ℕ

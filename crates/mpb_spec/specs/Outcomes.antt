@@ -15,7 +15,7 @@ use Rattle.mpb_spec.specs.declared.config.Life.{Life}
 use Rattle.mpb_spec.specs.declared.config.Life.TheVariants as life
 use Rattle.mpb_spec.specs.IoApic.{register, write_effect, effect_at, with_line, pulsed_due, pulsed_joined}
 use Rattle.mpb_spec.specs.State.{Processor, Place, BoardState, processor_of}
-use Rattle.mpb_spec.specs.Delivery.{delivery_outcomes}
+use Rattle.mpb_spec.specs.Delivery.{delivery_outcomes, to_id, to_logical}
 use Rattle.mpb_spec.specs.Steps.{due_at, send_outcomes, vector_at, ended_at}
 
 -- one outcome without a target
@@ -78,13 +78,14 @@ abbrev pub of_collect : ℕ → Option Place → What
 of_collect pins None = what.Pins 0 0
 of_collect pins (Some p) = what.Pins (pulsed_due pins p.chip.pins) (pulsed_joined pins p.chip.pins)
 
--- of a processor: Imcr, Warm, Tpr, IoSel and Pause come to Done
+-- of a processor: Imcr, Warm, Tpr, Ldr, Dfr, IoSel and Pause come to Done
 abbrev pub outcomes_of_cpu : ℕ → Op → BoardState → List Outcome
-outcomes_of_cpu id (op.Init d) s = delivery_outcomes 255 d sends.Init s
-outcomes_of_cpu id (op.Startup d page) s = delivery_outcomes 255 d (sends.Startup page) s
+outcomes_of_cpu id (op.Init d) s = delivery_outcomes (to_id d) sends.Init s
+outcomes_of_cpu id (op.Startup d page) s = delivery_outcomes (to_id d) (sends.Startup page) s
 outcomes_of_cpu id (op.Check d) s = record { at = d; what = found (processor_of d s.processors) } ∷ []
-outcomes_of_cpu id (op.Ipi d v) s = delivery_outcomes 255 d (sends.Fixed v false) s
-outcomes_of_cpu id (op.Nmi d) s = delivery_outcomes 255 d sends.Nmi s
+outcomes_of_cpu id (op.Ipi d v) s = delivery_outcomes (to_id d) (sends.Fixed v false) s
+outcomes_of_cpu id (op.Ipl d v) s = delivery_outcomes (to_logical d) (sends.Fixed v false) s
+outcomes_of_cpu id (op.Nmi d) s = delivery_outcomes (to_id d) sends.Nmi s
 outcomes_of_cpu id op.Take s = only (taken_by (processor_of id s.processors))
 outcomes_of_cpu id op.Poll s = only (taken_by (processor_of id s.processors))
 outcomes_of_cpu id op.Eoi s = only (ended_by (processor_of id s.processors))

@@ -1,10 +1,9 @@
 -- What a config says: its lists, without the memory that holds them. Two configs of one plan are one board.
 --     Plan                       the fields of a config
 --     device_program words       a device's program
---     planned devices a pin      how many pulses all devices plan on the pin of the I/O APIC at the place
 --     plan_size c                the ops and pulses in all
 --     initial_state_of c         the opening state of the board
-use Rattle.std.specs.Prelude.{◌==◌, ℕ, ◌+◌, Bool, false, ◌&&◌, List, [], ◌∷◌, ◌++◌, Option, None, Some, map, filter_map, sum_by, length, if◌then◌else◌}
+use Rattle.std.specs.Prelude.{◌==◌, ℕ, ◌+◌, Bool, false, List, [], ◌∷◌, ◌++◌, Option, None, Some, map, filter_map, sum_by, length, if◌then◌else◌}
 use Rattle.std.specs.List.{range_with_len}
 use Rattle.mpb_spec.specs.declared.agent.Op.{Op}
 use Rattle.mpb_spec.specs.declared.agent.Op.TheVariants as op
@@ -14,6 +13,7 @@ use Rattle.mpb_spec.specs.declared.config.Imcr.TheVariants as imcr
 use Rattle.mpb_spec.specs.declared.config.Life.TheVariants.{Asleep, First}
 use Rattle.mpb_spec.specs.LocalApic.{reset}
 use Rattle.mpb_spec.specs.IoApic.{reset_chip}
+use Rattle.mpb_spec.specs.Pulses.{planned, pulses_in}
 use Rattle.mpb_spec.specs.State.{Processor, Place, Device, BoardState}
 
 -- a processor: its local APIC's id and version, and its program
@@ -42,19 +42,9 @@ op_of_word (Low a pin) = Some (op.Low a pin)
 abbrev pub device_program : List DevWord → List Op
 device_program words = op.Begin ∷ (filter_map op_of_word words ++ op.End ∷ [])
 
--- how many pulses a word is on the pin of the I/O APIC at place a
-abbrev pub pulses_on : ℕ → ℕ → DevWord → ℕ
-pulses_on a pin (Pulse b p) = if (a == b) && (pin == p) then 1 else 0
-pulses_on a pin (High b p) = 0
-pulses_on a pin (Low b p) = 0
-
 -- the ops of all programs and the pulses: a device has its words, Begin and End
 abbrev pub plan_size : Plan → ℕ
 plan_size c = sum_by (λ p. length p.program) c.cpus + sum_by (λ words. length words + 2) c.devices
-
--- how many pulses all devices plan there
-abbrev pub planned : List (List DevWord) → ℕ → ℕ → ℕ
-planned devices a pin = sum_by (λ words. sum_by (pulses_on a pin) words) devices
 
 -- a processor at first: the boot processor runs, the others are asleep
 abbrev pub first_processor : ℕ → CpuPlan → Processor
@@ -62,7 +52,7 @@ first_processor boot p = record { id = p.id; version = p.version; program = p.pr
 
 -- an I/O APIC at first: each planned pulse is to be collected
 abbrev pub first_place : List (List DevWord) → ℕ → ℕ → Place
-first_place devices a id = record { chip = reset_chip id; swept = false; left = map (planned devices a) (range_with_len 0 24) }
+first_place devices a id = record { chip = reset_chip id; swept = false; left = map (λ pin. planned a pin (map pulses_in devices)) (range_with_len 0 24) }
 
 -- a device at first
 abbrev pub first_device : List DevWord → Device

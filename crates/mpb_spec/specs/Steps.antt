@@ -1,7 +1,7 @@
 -- One step of a board (this project's own): which op an agent makes next, and what it does.
 --     next_op s agent offer      what the agent makes next with the offer, none where it may not step
 --     after agent op s           the state after the op
---     kind_of m                  the message of a pin as a delivery, none where no processor hears it
+--     kind_of m, aim_of m        the message of a pin as a delivery, none where no processor hears it, and where it goes
 --     due_at a s                 the message of the least due pin at a place
 use Rattle.std.specs.Prelude.{◌==◌, ℕ, suc, ◌-◌, ◌/◌, ◌%◌, ◌^◌, Bool, true, false, not, ◌&&◌, List, [], ◌∷◌, Option, None, Some, map, slice_get, if◌then◌else◌, nat_lt, is_some}
 use Rattle.std.specs.List.{list_any}
@@ -15,13 +15,15 @@ use Rattle.mpb_spec.specs.declared.entry.Outcome.{Outcome}
 use Rattle.mpb_spec.specs.declared.entry.What.{What}
 use Rattle.mpb_spec.specs.declared.entry.What.TheVariants as what
 use Rattle.mpb_spec.specs.declared.apic.Message.{Message}
+use Rattle.mpb_spec.specs.declared.apic.Aim.{Aim}
+use Rattle.mpb_spec.specs.declared.apic.Destination.TheVariants.{Physical, Logical}
 use Rattle.mpb_spec.specs.declared.apic.Delivery.{Delivery}
 use Rattle.mpb_spec.specs.declared.apic.Delivery.TheVariants as sends
 use Rattle.mpb_spec.specs.declared.config.Imcr.TheVariants.{Apic}
 use Rattle.mpb_spec.specs.LocalApic.{LocalApic, next_vector, taken, ended, after_end}
 use Rattle.mpb_spec.specs.IoApic.{IoChip, next_due, written, change_pin, with_line, with_eoi, with_sent, pulsed}
 use Rattle.mpb_spec.specs.State.{Processor, Place, Device, BoardState, runs, processor_of, change_processor, change_at, boot_is_through, all_ended}
-use Rattle.mpb_spec.specs.Delivery.{delivered, delivery_outcomes}
+use Rattle.mpb_spec.specs.Delivery.{delivered, delivery_outcomes, to_id, to_logical}
 
 -- the op where its processor need not wait for it
 abbrev pub unless_waiting : LocalApic → Option Op → Option Op
@@ -91,15 +93,18 @@ left_after pins (n ∷ ns) = (n - pins % 2) ∷ left_after (pins / 2) ns
 abbrev pub collected : ℕ → Place → Place
 collected pins p = record p { chip = with_pins_of (pulsed pins) p.chip; left = left_after pins p.left }
 
--- the message by its delivery mode: 000 fixed, 010 SMI, 100 NMI, 111 ExtINT; lowest priority, INIT, the reserved modes and
--- logical destinations aren't heard
+-- the message by its delivery mode: 000 fixed, 001 lowest priority, 010 SMI, 100 NMI, 111 ExtINT; INIT and the reserved modes
+-- aren't heard
 abbrev pub kind_of : Message → Option Delivery
 kind_of m =
-    if m.logical then None
-    else (if m.mode == 0 then Some (sends.Fixed m.vector m.level)
+    if nat_lt m.mode 2 then Some (sends.Fixed m.vector m.level)
     else (if m.mode == 2 then Some sends.Pass
     else (if m.mode == 4 then Some sends.Nmi
-    else (if m.mode == 7 then Some sends.Pass else None))))
+    else (if m.mode == 7 then Some sends.Pass else None)))
+
+-- where it goes: physical destination 15 is all, and mode 001 is of lowest priority
+abbrev pub aim_of : Message → Aim
+aim_of m = record { at = if m.logical then Logical m.dest else Physical m.dest 15; lowest = m.mode == 1 }
 
 -- a message is accepted where an outcome is Set or Merged
 abbrev pub is_accepted : What → Bool
@@ -111,15 +116,15 @@ is_accepted o = false
 abbrev pub was_accepted : List Outcome → Bool
 was_accepted os = list_any (λ o. is_accepted o.what) os
 
--- a message of an I/O APIC goes to all where its destination is 15
-abbrev pub deliver_kind : ℕ → Option Delivery → BoardState → BoardState
-deliver_kind dest None s = s
-deliver_kind dest (Some d) s = delivered 15 dest d s
+-- a message of an I/O APIC is delivered where it is heard
+abbrev pub deliver_kind : Aim → Option Delivery → BoardState → BoardState
+deliver_kind aim None s = s
+deliver_kind aim (Some d) s = delivered aim d s
 
 -- and its outcomes
-abbrev pub kind_outcomes : ℕ → Option Delivery → BoardState → List Outcome
-kind_outcomes dest None s = record { at = 0; what = what.Unheard } ∷ []
-kind_outcomes dest (Some d) s = delivery_outcomes 15 dest d s
+abbrev pub kind_outcomes : Aim → Option Delivery → BoardState → List Outcome
+kind_outcomes aim None s = record { at = 0; what = what.Unheard } ∷ []
+kind_outcomes aim (Some d) s = delivery_outcomes aim d s
 
 -- the least due message of an I/O APIC
 abbrev pub due_of : Option Place → Option Message
@@ -133,13 +138,13 @@ due_at a s = due_of (slice_get s.places a)
 -- the outcomes of sending it
 abbrev pub send_outcomes : Option Message → BoardState → List Outcome
 send_outcomes None s = []
-send_outcomes (Some m) s = kind_outcomes m.dest (kind_of m) s
+send_outcomes (Some m) s = kind_outcomes (aim_of m) (kind_of m) s
 
 -- the state after it is delivered and sent
 abbrev pub sent_message : ℕ → Option Message → BoardState → BoardState
 sent_message a None s = s
 sent_message a (Some m) s =
-    let d = deliver_kind m.dest (kind_of m) s in
+    let d = deliver_kind (aim_of m) (kind_of m) s in
     record d { places = change_at a (with_chip (with_pins_of (change_pin m.pin (with_sent (was_accepted (send_outcomes (Some m) s)))))) s.places }
 
 -- the vector where the interrupt is level-triggered: each I/O APIC has its end of interrupt
@@ -174,10 +179,11 @@ with_apic f p = record p { apic = f p.apic }
 abbrev pub effect_of_cpu : ℕ → Op → BoardState → BoardState
 effect_of_cpu id op.Imcr s = record s { imcr = Apic }
 effect_of_cpu id (op.Warm page) s = record s { warm = Some page }
-effect_of_cpu id (op.Init d) s = delivered 255 d sends.Init s
-effect_of_cpu id (op.Startup d page) s = delivered 255 d (sends.Startup page) s
-effect_of_cpu id (op.Ipi d v) s = delivered 255 d (sends.Fixed v false) s
-effect_of_cpu id (op.Nmi d) s = delivered 255 d sends.Nmi s
+effect_of_cpu id (op.Init d) s = delivered (to_id d) sends.Init s
+effect_of_cpu id (op.Startup d page) s = delivered (to_id d) (sends.Startup page) s
+effect_of_cpu id (op.Ipi d v) s = delivered (to_id d) (sends.Fixed v false) s
+effect_of_cpu id (op.Ipl d v) s = delivered (to_logical d) (sends.Fixed v false) s
+effect_of_cpu id (op.Nmi d) s = delivered (to_id d) sends.Nmi s
 effect_of_cpu id op.Take s = record s { processors = change_processor id (with_apic taken) s.processors }
 effect_of_cpu id op.Poll s = record s { processors = change_processor id (with_apic taken) s.processors }
 effect_of_cpu id op.Eoi s =
@@ -186,6 +192,8 @@ effect_of_cpu id op.Eoi s =
       places = ended_at_places (level_end (processor_of id s.processors)) s.places;
     }
 effect_of_cpu id (op.Tpr n) s = record s { processors = change_processor id (with_apic (λ a. record a { tpr = n })) s.processors }
+effect_of_cpu id (op.Ldr n) s = record s { processors = change_processor id (with_apic (λ a. record a { ldr = n })) s.processors }
+effect_of_cpu id (op.Dfr n) s = record s { processors = change_processor id (with_apic (λ a. record a { dfr = n })) s.processors }
 effect_of_cpu id (op.IoSel a r) s = record s { places = change_at a (with_chip (λ c. record c { index = r })) s.places }
 effect_of_cpu id (op.IoWin a v) s = record s { places = change_at a (with_chip (written v)) s.places }
 -- Check, IoRead and Pause change nothing

@@ -29,6 +29,8 @@ pub enum Op {
     Check(u8),
     /// A fixed message: its destination, 255 for all, and its vector.
     Ipi(u8, u8),
+    /// A fixed message to a logical destination: that, and its vector.
+    Ipl(u8, u8),
     /// An NMI message to this destination, 255 for all.
     Nmi(u8),
     /// Takes the next interrupt, and waits until there is one.
@@ -39,6 +41,10 @@ pub enum Op {
     Eoi,
     /// Sets the task priority.
     Tpr(u8),
+    /// Sets the logical destination: bits 31:24 of the LDR.
+    Ldr(u8),
+    /// Sets the model of logical destinations, 15 for flat or 0 for cluster: bits 31:28 of the DFR.
+    Dfr(u8),
     /// Selects a register: the place of the I/O APIC, and the index.
     IoSel(u8, u8),
     /// Writes the selected register: the place of the I/O APIC, and the value.

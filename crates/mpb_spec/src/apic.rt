@@ -27,7 +27,8 @@ pub enum Effect {
 pub struct Message {
     /// The pin, below 24.
     pub pin: u8,
-    /// Bits 59:56 of the entry: a local APIC id, or 15 for all.
+    /// A logical destination is bits 63:56 of the entry; a physical one is bits 59:56, a local APIC
+    /// id, or 15 for all.
     pub dest: u8,
     /// Bit 11: a logical destination.
     pub logical: bool,
@@ -59,6 +60,23 @@ pub struct Pin {
     pub due: bool,
     /// Remote IRR: a level message was accepted, and its end of interrupt hasn't come.
     pub remote: bool,
+}
+
+/// The processors that a message names.
+#[derive(Clone, Copy)]
+pub enum Destination {
+    /// The one whose local APIC has this id; each, where it is the second number.
+    Physical(u8, u8),
+    /// Those whose local APICs match it.
+    Logical(u8),
+}
+
+/// Where a message goes.
+#[derive(Clone, Copy)]
+pub struct Aim {
+    pub at: Destination,
+    /// Whether it goes to the one of lowest priority among these that runs, where one does.
+    pub lowest: bool,
 }
 
 /// What is delivered to processors.

@@ -2,14 +2,18 @@
 //! the definitions that every contract cites. Nothing here computes a board.
 #![tactic(auto)]
 
+mod account;
 mod agent;
 mod apic;
 mod config;
 mod entry;
 mod fault;
+mod pulse;
 
+pub use account::Account;
 pub use agent::{Agent, Offer, Op};
-pub use apic::{Accept, Collected, Delivery, Effect, Message, Pin};
+pub use apic::{Accept, Aim, Collected, Delivery, Destination, Effect, Message, Pin};
 pub use config::{Config, CpuConfig, DevWord, Imcr, Life};
 pub use entry::{Entry, Outcome, What};
 pub use fault::BoardError;
+pub use pulse::{Hit, Pulse};

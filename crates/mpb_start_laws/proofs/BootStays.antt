@@ -5,11 +5,12 @@ use Rattle.mpb_spec.specs.declared.agent.Agent.{Agent}
 use Rattle.mpb_spec.specs.declared.agent.Agent.TheVariants.{Cpu, Io, Dev}
 use Rattle.mpb_spec.specs.declared.agent.Op.{Op}
 use Rattle.mpb_spec.specs.declared.agent.Op.TheVariants as op
+use Rattle.mpb_spec.specs.declared.apic.Aim.{Aim}
 use Rattle.mpb_spec.specs.declared.apic.Delivery.{Delivery}
 use Rattle.mpb_spec.specs.declared.apic.Message.{Message}
 use Rattle.mpb_spec.specs.declared.entry.Entry.{Entry}
 use Rattle.mpb_spec.specs.State.{Processor, BoardState, processor_of, boot_is_through, is_through}
-use Rattle.mpb_spec.specs.Steps.{after, sent_message, deliver_kind, kind_of, due_at}
+use Rattle.mpb_spec.specs.Steps.{after, sent_message, deliver_kind, kind_of, aim_of, due_at}
 use Rattle.mpb_spec.specs.Plan.{Plan, initial_state_of}
 use Rattle.mpb_spec.specs.Configs.{IsConfig}
 use Rattle.mpb_spec.specs.Journal.{IsComplete, after_entry, final_state_of}
@@ -17,13 +18,13 @@ use Rattle.mpb_start_laws.proofs.Opening.{IsBootAt, boot_at}
 use Rattle.mpb_start_laws.proofs.Through.{boot_past}
 
 -- the boot processor and the length of its program stay
-kind-boot : (dest : ℕ) (k : Option Delivery) (s : BoardState) → ((deliver_kind dest k s).boot ≡ s.boot) × ((deliver_kind dest k s).boot_len ≡ s.boot_len)
-kind-boot dest None s = (refl, refl)
-kind-boot dest (Some m) s = (refl, refl)
+kind-boot : (aim : Aim) (k : Option Delivery) (s : BoardState) → ((deliver_kind aim k s).boot ≡ s.boot) × ((deliver_kind aim k s).boot_len ≡ s.boot_len)
+kind-boot aim None s = (refl, refl)
+kind-boot aim (Some m) s = (refl, refl)
 
 send-boot : (a : ℕ) (m : Option Message) (s : BoardState) → ((sent_message a m s).boot ≡ s.boot) × ((sent_message a m s).boot_len ≡ s.boot_len)
 send-boot a None s = (refl, refl)
-send-boot a (Some m) s = kind-boot m.dest (kind_of m) s
+send-boot a (Some m) s = kind-boot (aim_of m) (kind_of m) s
 
 step-boot : (g : Agent) (o : Op) (s : BoardState) → ((after g o s).boot ≡ s.boot) × ((after g o s).boot_len ≡ s.boot_len)
 step-boot (Cpu id) op.Imcr s = (refl, refl)

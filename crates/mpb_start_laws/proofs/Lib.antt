@@ -2,7 +2,6 @@ pub mod Lists
 pub mod Processors
 pub mod Calls
 pub mod StartPages
-pub mod PlansStay
 pub mod LifeSteps
 pub mod LivesGoOn
 pub mod UnderWay

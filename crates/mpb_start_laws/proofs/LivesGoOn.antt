@@ -5,6 +5,7 @@ use Rattle.mpb_spec.specs.declared.agent.Agent.{Agent}
 use Rattle.mpb_spec.specs.declared.agent.Agent.TheVariants.{Cpu, Io, Dev}
 use Rattle.mpb_spec.specs.declared.agent.Op.{Op}
 use Rattle.mpb_spec.specs.declared.agent.Op.TheVariants as op
+use Rattle.mpb_spec.specs.declared.apic.Aim.{Aim}
 use Rattle.mpb_spec.specs.declared.apic.Delivery.{Delivery}
 use Rattle.mpb_spec.specs.declared.apic.Delivery.TheVariants as sends
 use Rattle.mpb_spec.specs.declared.apic.Message.{Message}
@@ -12,7 +13,7 @@ use Rattle.mpb_spec.specs.declared.config.Life.{Life}
 use Rattle.mpb_spec.specs.declared.config.Life.TheVariants as life
 use Rattle.mpb_spec.specs.State.{BoardState, runs}
 use Rattle.mpb_spec.specs.Delivery.{life_after_init, started_by}
-use Rattle.mpb_spec.specs.Steps.{after, due_at, kind_of, deliver_kind, sent_message}
+use Rattle.mpb_spec.specs.Steps.{after, due_at, kind_of, aim_of, deliver_kind, sent_message}
 use Rattle.mpb_spec.specs.Configs.{IsAtPage}
 use Rattle.mpb_start_laws.proofs.Calls.{call_at, call_if, life_after}
 
@@ -21,13 +22,13 @@ abbrev pub warm_after : Agent → Op → Option ℕ → Option ℕ
 warm_after (Cpu id) (op.Warm page) w = Some page
 warm_after g o w = w
 
-kind-warm : (dest : ℕ) (k : Option Delivery) (s : BoardState) → (deliver_kind dest k s).warm ≡ s.warm
-kind-warm dest None s = refl
-kind-warm dest (Some m) s = refl
+kind-warm : (aim : Aim) (k : Option Delivery) (s : BoardState) → (deliver_kind aim k s).warm ≡ s.warm
+kind-warm aim None s = refl
+kind-warm aim (Some m) s = refl
 
 send-warm : (a : ℕ) (m : Option Message) (s : BoardState) → (sent_message a m s).warm ≡ s.warm
 send-warm a None s = refl
-send-warm a (Some m) s = kind-warm m.dest (kind_of m) s
+send-warm a (Some m) s = kind-warm (aim_of m) (kind_of m) s
 
 pub step_warm : (g : Agent) (o : Op) (s : BoardState) → (after g o s).warm ≡ warm_after g o s.warm
 step_warm (Cpu id) op.Imcr s = refl

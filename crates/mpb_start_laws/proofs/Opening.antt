@@ -9,9 +9,9 @@ use Rattle.mpb_spec.specs.State.{Processor, BoardState, processor_of}
 use Rattle.mpb_spec.specs.Plan.{Plan, CpuPlan, initial_state_of, first_processor}
 use Rattle.mpb_spec.specs.Configs.{IsConfig}
 use Rattle.mpb_spec.specs.Journal.{after_entry, final_state_of}
-use Rattle.mpb_start_laws.proofs.Processors.{plan_of, plans_of, found_plan}
+use Rattle.mpb_start_laws.proofs.Processors.{found_plan}
 use Rattle.mpb_start_laws.proofs.Calls.{call_at, life_after}
-use Rattle.mpb_start_laws.proofs.PlansStay.{first_plans}
+use Rattle.mpb_spec.proofs.PlansStay.{plan_of, plans_of, first_plans}
 use Rattle.mpb_start_laws.proofs.LifeSteps.{step_goes}
 use Rattle.mpb_start_laws.proofs.LivesGoOn.{first_stays}
 

@@ -5,14 +5,8 @@ use Rattle.std.proofs.lemmas.Bool.{ne_eqb, eq-eqb, eqb-true, eqb-false}
 use Rattle.mpb_spec.specs.Numbers.{IsAscending}
 use Rattle.mpb_spec.specs.State.{Processor, processor_of, change_processor}
 use Rattle.mpb_spec.specs.Plan.{CpuPlan}
+use Rattle.mpb_spec.proofs.PlansStay.{plan_of, plans_of}
 use Rattle.mpb_start_laws.proofs.Lists.{head_or, member}
-
--- what never changes of a processor
-abbrev pub plan_of : Processor → CpuPlan
-plan_of p = record { id = p.id; version = p.version; program = p.program }
-
-abbrev pub plans_of : List Processor → List CpuPlan
-plans_of ps = map plan_of ps
 
 abbrev pub KeepsId : (Processor → Processor) → Type 0
 KeepsId k = (p : Processor) → (k p).id ≡ p.id

@@ -15,7 +15,7 @@ use Rattle.mpb_start_laws.specs.Starts.{starts_at, IsStartedOnce}
 use Rattle.mpb_start_laws.proofs.Lists.{read_after, read_later, read_taken}
 use Rattle.mpb_start_laws.proofs.Processors.{found_here, found_id, same_found}
 use Rattle.mpb_start_laws.specs.Starts.{life_pages}
-use Rattle.mpb_start_laws.proofs.PlansStay.{first_plans}
+use Rattle.mpb_spec.proofs.PlansStay.{first_plans}
 use Rattle.mpb_start_laws.proofs.LivesGoOn.{IsLifeOf, early_op, late_op}
 use Rattle.mpb_start_laws.proofs.UnderWay.{Starts, IsUnderWay, is_new, run_goes_on}
 use Rattle.mpb_start_laws.proofs.Told.{told}

@@ -13,7 +13,7 @@ use Rattle.mpb_spec.specs.May.{IsQuiescent}
 use Rattle.mpb_spec.specs.Plan.{Plan, CpuPlan}
 use Rattle.mpb_spec.specs.Configs.{IsConfig, IsCpuPlan, is_boot_op, boot_ops}
 use Rattle.mpb_start_laws.proofs.Lists.{member, read_member, none_past, taken_read}
-use Rattle.mpb_start_laws.proofs.Processors.{plan_of}
+use Rattle.mpb_spec.proofs.PlansStay.{plan_of}
 use Rattle.mpb_start_laws.proofs.Opening.{IsBootAt}
 
 -- a processor that runs is idle where it is past its program, or at a Take

@@ -11,11 +11,11 @@ use Rattle.mpb_spec.specs.Configs.{IsConfig}
 use Rattle.mpb_start_laws.proofs.Opening.{first_found}
 use Rattle.mpb_spec.specs.Journal.{AreSteps, IsStep, IsLegal, after_entry, final_state_of}
 use Rattle.mpb_start_laws.specs.Starts.{pages_at, starts_at}
-use Rattle.mpb_start_laws.proofs.Processors.{same_found, plan_of, plans_of, found_id, found_in, found_member}
+use Rattle.mpb_start_laws.proofs.Processors.{same_found, found_id, found_in, found_member}
 use Rattle.mpb_start_laws.specs.Starts.{life_pages}
 use Rattle.mpb_start_laws.proofs.Calls.{told_after, call_at, life_after}
 use Rattle.mpb_start_laws.proofs.StartPages.{step_pages}
-use Rattle.mpb_start_laws.proofs.PlansStay.{step_plans, plans_stay, first_plans}
+use Rattle.mpb_spec.proofs.PlansStay.{plan_of, plans_of, step_plans, plans_stay, first_plans}
 use Rattle.mpb_start_laws.proofs.LifeSteps.{step_goes}
 
 nothing-more : (l : Life) → life_pages l ≡ life_pages l ++ []

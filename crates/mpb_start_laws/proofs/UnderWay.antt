@@ -17,9 +17,9 @@ use Rattle.mpb_spec.specs.Requests.{is_cpu}
 use Rattle.mpb_spec.proofs.Kept.{kept_op}
 use Rattle.mpb_spec.proofs.May.{may_advance_cpu}
 use Rattle.mpb_start_laws.proofs.Lists.{member, read_member}
-use Rattle.mpb_start_laws.proofs.Processors.{plan_of, plans_of, found_in}
+use Rattle.mpb_start_laws.proofs.Processors.{found_in}
 use Rattle.mpb_start_laws.proofs.Calls.{call_at, life_after}
-use Rattle.mpb_start_laws.proofs.PlansStay.{step_plans}
+use Rattle.mpb_spec.proofs.PlansStay.{plan_of, plans_of, step_plans}
 use Rattle.mpb_start_laws.proofs.LifeSteps.{own, step_goes}
 use Rattle.mpb_start_laws.proofs.LivesGoOn.{warm_after, step_warm, IsWarmAt, NamesPage, warm_stays_at, IsLifeOf, life_stays_lawful, is_ready, ready_stays, running_stays, early_op, late_op, early_readies, late_starts}
 

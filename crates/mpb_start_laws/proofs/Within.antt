@@ -6,21 +6,22 @@ use Rattle.mpb_spec.specs.declared.agent.Agent.TheVariants.{Cpu, Io, Dev}
 use Rattle.mpb_spec.specs.declared.agent.Offer.{Offer}
 use Rattle.mpb_spec.specs.declared.agent.Op.{Op}
 use Rattle.mpb_spec.specs.declared.agent.Op.TheVariants as op
+use Rattle.mpb_spec.specs.declared.apic.Aim.{Aim}
 use Rattle.mpb_spec.specs.declared.apic.Delivery.{Delivery}
 use Rattle.mpb_spec.specs.declared.apic.Message.{Message}
 use Rattle.mpb_spec.specs.declared.config.DevWord.{DevWord}
 use Rattle.mpb_spec.specs.declared.entry.Entry.{Entry}
 use Rattle.mpb_spec.specs.Numbers.{IsAscending}
 use Rattle.mpb_spec.specs.State.{Processor, Device, BoardState, processor_of, change_at, device_op_at}
-use Rattle.mpb_spec.specs.Steps.{next_op, after, effect_of_dev, sent_message, deliver_kind, kind_of, due_at}
+use Rattle.mpb_spec.specs.Steps.{next_op, after, effect_of_dev, sent_message, deliver_kind, kind_of, aim_of, due_at}
 use Rattle.mpb_spec.specs.Plan.{Plan, CpuPlan, initial_state_of, first_processor, first_device}
 use Rattle.mpb_spec.specs.Configs.{IsConfig}
 use Rattle.mpb_spec.specs.Journal.{AreSteps, IsLegal, after_entry, final_state_of}
 use Rattle.mpb_spec.specs.Requests.{is_cpu}
 use Rattle.mpb_spec.proofs.May.{may_advance_dev}
-use Rattle.mpb_start_laws.proofs.Processors.{same_found, plan_of, found_in, found_member}
+use Rattle.mpb_start_laws.proofs.Processors.{same_found, found_in, found_member}
 use Rattle.std.proofs.lemmas.Option.{slice_get_within}
-use Rattle.mpb_start_laws.proofs.PlansStay.{plans_stay}
+use Rattle.mpb_spec.proofs.PlansStay.{plan_of, plans_stay}
 use Rattle.mpb_start_laws.proofs.LifeSteps.{step_goes}
 use Rattle.mpb_start_laws.proofs.UnderWay.{op_is_there, is_own}
 use Rattle.mpb_start_laws.proofs.Told.{up_of}
@@ -66,13 +67,13 @@ cpu-devices : (id : ℕ) (o : Op) (s : BoardState) → (after (Cpu id) o s).devi
 cpu-devices id op.Imcr s = refl
 cpu-devices id o s = refl
 
-kind-devices : (dest : ℕ) (k : Option Delivery) (s : BoardState) → (deliver_kind dest k s).devices ≡ s.devices
-kind-devices dest None s = refl
-kind-devices dest (Some m) s = refl
+kind-devices : (aim : Aim) (k : Option Delivery) (s : BoardState) → (deliver_kind aim k s).devices ≡ s.devices
+kind-devices aim None s = refl
+kind-devices aim (Some m) s = refl
 
 send-devices : (a : ℕ) (m : Option Message) (s : BoardState) → (sent_message a m s).devices ≡ s.devices
 send-devices a None s = refl
-send-devices a (Some m) s = kind-devices m.dest (kind_of m) s
+send-devices a (Some m) s = kind-devices (aim_of m) (kind_of m) s
 
 io-devices : (a : ℕ) (o : Op) (s : BoardState) → (after (Io a) o s).devices ≡ s.devices
 io-devices a (op.Collect pins) s = refl

@@ -1,6 +1,6 @@
 -- What a word says has the values of its kind.
-use Rattle.std.proofs.Common.{◌≡◌, ℕ, ◌≤◌, Bool, true, false, cond, ◌&&◌, ◌==◌, List, [], ◌∷◌, length, map, slice_index, Option, Some, None, is_some, Result, Ok, Err, refl, subst, arith, nat_le}
-use Rattle.std.proofs.lemmas.Bool.{leb-true, le-leb, eqb-true}
+use Rattle.std.proofs.Common.{◌≡◌, ℕ, ◌≤◌, Bool, true, false, cond, ◌&&◌, ◌||◌, ◌⊎◌, ◌==◌, inl, inr, List, [], ◌∷◌, length, map, slice_index, Option, Some, None, is_some, Result, Ok, Err, refl, subst, arith, nat_le}
+use Rattle.std.proofs.lemmas.Bool.{leb-true, le-leb, eqb-true, eq-eqb}
 use Rattle.std.specs.List.{list_all}
 use Rattle.mpb_spec.specs.declared.agent.Op.{Op}
 use Rattle.mpb_spec.specs.declared.agent.Op.TheVariants as op
@@ -14,7 +14,7 @@ use Rattle.mpb_words.specs.declared.names.CpuName.TheVariants as cpu
 use Rattle.mpb_words.specs.declared.names.DeviceName.{DeviceName}
 use Rattle.mpb_words.specs.declared.names.DeviceName.TheVariants as device
 use Rattle.mpb_words.specs.Numbers.{value_of, are_within, first_two, judged, number_of, numbers_of}
-use Rattle.mpb_words.specs.Words.{parts_of, cpu_name_of, cpu_limits, cpu_op, cpu_op_named, cpu_op_in, cpu_op_of, device_name_of, device_limits, device_word, device_word_named, device_word_in, device_word_of, said}
+use Rattle.mpb_words.specs.Words.{parts_of, cpu_name_of, cpu_limits, is_in_range, ranged, cpu_op, cpu_op_named, cpu_op_in, cpu_op_of, device_name_of, device_limits, device_word, device_word_named, device_word_in, device_word_of, said}
 use Rattle.mpb_words.specs.Values.{IsCpuWord, IsDeviceWord}
 
 -- numbers that were accepted are within the first two limits
@@ -58,33 +58,54 @@ said_by P f limits parts x few holds (Ok n) is e =
     let same : f n.0 n.1 ≡ x = cc in
     subst P same (holds n (judged-within limits (map number_of parts) n few is))
 
-cpu_values : (name : CpuName) (n : ℕ × ℕ) → AreUpTo (cpu_limits name) n → IsCpuWord (cpu_op name n.0 n.1)
-cpu_values cpu.Ipi n up = (omega arith, omega arith)
-cpu_values cpu.Nmi n up = omega arith
-cpu_values cpu.Take n up = tt
-cpu_values cpu.Poll n up = tt
-cpu_values cpu.Eoi n up = tt
-cpu_values cpu.Tpr n up = omega arith
-cpu_values cpu.IoSel n up = (omega arith, omega arith)
-cpu_values cpu.IoWin n up = (omega arith, omega arith)
-cpu_values cpu.IoRead n up = omega arith
-cpu_values cpu.Pause n up = up.0
+either_model : (n : ℕ) → ((n == 0) || (n == 15)) ≡ true → (n ≡ 0) ⊎ (n ≡ 15)
+either_model n e = go (n == 0) refl e where
+  go : (b : Bool) → (n == 0) ≡ b → (b || (n == 15)) ≡ true → (n ≡ 0) ⊎ (n ≡ 15)
+  go true w h = inl (eqb-true n 0 w)
+  go false w h = inr (eqb-true n 15 h)
+
+cpu_values : (name : CpuName) (n : ℕ × ℕ) → AreUpTo (cpu_limits name) n → is_in_range name n.0 ≡ true → IsCpuWord (cpu_op name n.0 n.1)
+cpu_values cpu.Ipi n up in_range = (omega arith, omega arith)
+cpu_values cpu.Ipl n up in_range = (omega arith, omega arith)
+cpu_values cpu.Nmi n up in_range = omega arith
+cpu_values cpu.Take n up in_range = tt
+cpu_values cpu.Poll n up in_range = tt
+cpu_values cpu.Eoi n up in_range = tt
+cpu_values cpu.Tpr n up in_range = omega arith
+cpu_values cpu.Ldr n up in_range = omega arith
+cpu_values cpu.Dfr n up in_range = either_model n.0 in_range
+cpu_values cpu.IoSel n up in_range = (omega arith, omega arith)
+cpu_values cpu.IoWin n up in_range = (omega arith, omega arith)
+cpu_values cpu.IoRead n up in_range = omega arith
+cpu_values cpu.Pause n up in_range = up.0
 
 few_limits : (name : CpuName) → length (cpu_limits name) ≤ 2
 few_limits cpu.Ipi = omega arith
+few_limits cpu.Ipl = omega arith
 few_limits cpu.Nmi = omega arith
 few_limits cpu.Take = omega arith
 few_limits cpu.Poll = omega arith
 few_limits cpu.Eoi = omega arith
 few_limits cpu.Tpr = omega arith
+few_limits cpu.Ldr = omega arith
+few_limits cpu.Dfr = omega arith
 few_limits cpu.IoSel = omega arith
 few_limits cpu.IoWin = omega arith
 few_limits cpu.IoRead = omega arith
 few_limits cpu.Pause = omega arith
 
+said_in_range : (name : CpuName) (parts : List (List ℕ)) (x : Op) (r : Result (ℕ × ℕ) WordWhy) → numbers_of (cpu_limits name) parts ≡ r → said (cpu_op name) (ranged name r) ≡ Ok x → IsCpuWord x
+said_in_range name parts x (Err w) is e = cc
+said_in_range name parts x (Ok n) is e = go (is_in_range name n.0) refl e where
+  go : (b : Bool) → is_in_range name n.0 ≡ b → said (cpu_op name) (cond b (Ok n) (Err why.Range)) ≡ Ok x → IsCpuWord x
+  go true w h =
+      let same : cpu_op name n.0 n.1 ≡ x = cc in
+      subst IsCpuWord same (cpu_values name n (judged-within (cpu_limits name) (map number_of parts) n (few_limits name) is) w)
+  go false w h = cc
+
 named_cpu : (name : Option CpuName) (parts : List (List ℕ)) (op : Op) → cpu_op_named name parts ≡ Ok op → IsCpuWord op
 named_cpu None parts op e = cc
-named_cpu (Some name) parts op e = said_by IsCpuWord (cpu_op name) (cpu_limits name) parts op (few_limits name) (cpu_values name) (numbers_of (cpu_limits name) parts) refl e
+named_cpu (Some name) parts op e = said_in_range name parts op (numbers_of (cpu_limits name) parts) refl e
 
 pub cpu_in : (parts : List (List ℕ)) (op : Op) → cpu_op_in parts ≡ Ok op → IsCpuWord op
 cpu_in [] op e = cc
@@ -113,14 +134,22 @@ pub device_word_of-values : (word : List ℕ) (w : DevWord) → device_word_of w
 unfolding device_word_of
 device_word_of-values word w e = device_in (parts_of word) w e
 
+-- a model is 0 or 15
+pub two_models : (n : ℕ) → (n ≡ 0) ⊎ (n ≡ 15) → ((n == 0) || (n == 15)) ≡ true
+two_models n (inl e) = rw (eq-eqb n 0 e) refl
+two_models n (inr e) = rw (eq-eqb n 15 e) (elim (n == 0) as (λ b. (b || true) ≡ true) [ true ↦ refl | false ↦ refl ])
+
 -- an operation of a processor's script, at one of four places
 pub IsCpuWord-script : (op : Op) → IsCpuWord op → (is_script_op op ≡ true) × IsOpOn 4 op
 IsCpuWord-script (op.Ipi d v) has = (refl, tt)
+IsCpuWord-script (op.Ipl d v) has = (refl, tt)
 IsCpuWord-script (op.Nmi d) has = (refl, tt)
 IsCpuWord-script op.Take has = (refl, tt)
 IsCpuWord-script op.Poll has = (refl, tt)
 IsCpuWord-script op.Eoi has = (refl, tt)
 IsCpuWord-script (op.Tpr n) has = (refl, tt)
+IsCpuWord-script (op.Ldr n) has = (refl, tt)
+IsCpuWord-script (op.Dfr n) has = (two_models n has, tt)
 IsCpuWord-script (op.IoSel a r) has = (refl, has.0)
 IsCpuWord-script (op.IoWin a v) has = (refl, has.0)
 IsCpuWord-script (op.IoRead a) has = (refl, has)

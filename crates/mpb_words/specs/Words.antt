@@ -1,7 +1,7 @@
 -- The words of a script: which names there are, their numbers, and what each says (this project's own format).
 --     cpu_op_of word        the operation that a processor's word says, or why it is wrong
 --     device_word_of word   what a device's word says, or why it is wrong
-use Rattle.std.specs.Prelude.{ℕ, ◌==◌, List, [], ◌∷◌, Option, Some, None, codes, bytes_eq, if◌then◌else◌, Result, Ok, Err}
+use Rattle.std.specs.Prelude.{ℕ, ◌==◌, ◌||◌, Bool, true, List, [], ◌∷◌, Option, Some, None, codes, bytes_eq, if◌then◌else◌, Result, Ok, Err}
 use Rattle.std.specs.List.{slice_split}
 use Rattle.mpb_spec.specs.declared.agent.Op.{Op}
 use Rattle.mpb_spec.specs.declared.agent.Op.TheVariants as op
@@ -23,11 +23,14 @@ parts_of word = slice_split (λ b. b == 32) word
 abbrev pub cpu_name_of : List ℕ → Option CpuName
 cpu_name_of t =
     if bytes_eq t (codes "ipi") then Some cpu.Ipi
+    else if bytes_eq t (codes "ipl") then Some cpu.Ipl
     else if bytes_eq t (codes "nmi") then Some cpu.Nmi
     else if bytes_eq t (codes "take") then Some cpu.Take
     else if bytes_eq t (codes "poll") then Some cpu.Poll
     else if bytes_eq t (codes "eoi") then Some cpu.Eoi
     else if bytes_eq t (codes "tpr") then Some cpu.Tpr
+    else if bytes_eq t (codes "ldr") then Some cpu.Ldr
+    else if bytes_eq t (codes "dfr") then Some cpu.Dfr
     else if bytes_eq t (codes "iosel") then Some cpu.IoSel
     else if bytes_eq t (codes "iowin") then Some cpu.IoWin
     else if bytes_eq t (codes "ioread") then Some cpu.IoRead
@@ -37,24 +40,35 @@ cpu_name_of t =
 -- the greatest values of its numbers
 abbrev pub cpu_limits : CpuName → List ℕ
 cpu_limits cpu.Ipi = 255 ∷ 255 ∷ []
+cpu_limits cpu.Ipl = 255 ∷ 255 ∷ []
 cpu_limits cpu.Nmi = 255 ∷ []
 cpu_limits cpu.Take = []
 cpu_limits cpu.Poll = []
 cpu_limits cpu.Eoi = []
 cpu_limits cpu.Tpr = 255 ∷ []
+cpu_limits cpu.Ldr = 255 ∷ []
+cpu_limits cpu.Dfr = 15 ∷ []
 cpu_limits cpu.IoSel = 3 ∷ 255 ∷ []
 cpu_limits cpu.IoWin = 3 ∷ 4294967295 ∷ []
 cpu_limits cpu.IoRead = 3 ∷ []
 cpu_limits cpu.Pause = 1000000 ∷ []
 
+-- within them all numbers are in range, but for those of a model of logical destinations: it is 0 or 15
+abbrev pub is_in_range : CpuName → ℕ → Bool
+is_in_range cpu.Dfr a = (a == 0) || (a == 15)
+is_in_range _ a = true
+
 -- the operation of a name and its numbers
 abbrev pub cpu_op : CpuName → ℕ → ℕ → Op
 cpu_op cpu.Ipi a b = op.Ipi a b
+cpu_op cpu.Ipl a b = op.Ipl a b
 cpu_op cpu.Nmi a b = op.Nmi a
 cpu_op cpu.Take a b = op.Take
 cpu_op cpu.Poll a b = op.Poll
 cpu_op cpu.Eoi a b = op.Eoi
 cpu_op cpu.Tpr a b = op.Tpr a
+cpu_op cpu.Ldr a b = op.Ldr a
+cpu_op cpu.Dfr a b = op.Dfr a
 cpu_op cpu.IoSel a b = op.IoSel a b
 cpu_op cpu.IoWin a b = op.IoWin a b
 cpu_op cpu.IoRead a b = op.IoRead a
@@ -83,10 +97,15 @@ abbrev pub said : {A : Type 0} → (ℕ → ℕ → A) → Result (ℕ × ℕ) W
 said f (Err w) = Err w
 said f (Ok n) = Ok (f n.0 n.1)
 
+-- the numbers of a name, where they are in range
+abbrev pub ranged : CpuName → Result (ℕ × ℕ) WordWhy → Result (ℕ × ℕ) WordWhy
+ranged name (Err w) = Err w
+ranged name (Ok n) = if is_in_range name n.0 then Ok n else Err why.Range
+
 -- the first part is the name, and all others stand for numbers
 abbrev pub cpu_op_named : Option CpuName → List (List ℕ) → Result Op WordWhy
 cpu_op_named None parts = Err why.Name
-cpu_op_named (Some name) parts = said (cpu_op name) (numbers_of (cpu_limits name) parts)
+cpu_op_named (Some name) parts = said (cpu_op name) (ranged name (numbers_of (cpu_limits name) parts))
 
 -- what the parts of a processor's word say: the first is the name
 abbrev pub cpu_op_in : List (List ℕ) → Result Op WordWhy

@@ -5,7 +5,9 @@ ghost use Rattle.mpb_words.specs.Words.{parts_of, cpu_op_of, cpu_op_in, cpu_op, 
 ghost use Rattle.mpb_words.specs.Values.{IsCpuWord, IsDeviceWord};
 ghost use Rattle.mpb_words.specs.Answers.{IsCauseOf};
 
-use crate::names::{CpuName, DeviceName, cpu_limits, cpu_name, device_limits, device_name};
+use crate::names::{
+    CpuName, DeviceName, cpu_limits, cpu_name, device_limits, device_name, is_in_range,
+};
 use crate::numbers::numbers;
 use crate::refusal::{Stop, WordWhy};
 use mpb_spec::{DevWord, Op};
@@ -20,10 +22,10 @@ fn parts(alloc: Global, word: &str) -> Result<Vec<&str>, AllocError>
 
 /// Reads a word of a processor.
 ///
-/// A word is a name and its numbers, parted by one space: `ipi D V`, `nmi D`, `take`, `poll`, `eoi`,
-/// `tpr N`, `iosel A R`, `iowin A V`, `ioread A` or `pause US`. D, V, N and R are up to 255, A is an
-/// I/O APIC's place up to 3, iowin's V a `u32`, US microseconds up to 1,000,000. A number is decimal
-/// without leading zeros, or `0x` and one to eight hexadecimal digits.
+/// A word is a name and its numbers, parted by one space: `ipi D V`, `ipl D V`, `nmi D`, `take`, `poll`,
+/// `eoi`, `tpr N`, `ldr N`, `dfr M`, `iosel A R`, `iowin A V`, `ioread A` or `pause US`. D, V, N and R are
+/// up to 255, M is 0 or 15, A is an I/O APIC's place up to 3, iowin's V a `u32`, US microseconds up to
+/// 1,000,000. A number is decimal without leading zeros, or `0x` and one to eight hexadecimal digits.
 ///
 /// # Errors
 ///
@@ -50,7 +52,13 @@ fn cpu_op(parts: &[&str]) -> Result<Op, WordWhy>
     match parts {
         [text, rest @ ..] => match cpu_name(text) {
             Some(name) => match numbers(rest, cpu_limits(name)) {
-                Ok((a, b)) => Ok(named_op(name, a, b)),
+                Ok((a, b)) => {
+                    if is_in_range(name, a) {
+                        Ok(named_op(name, a, b))
+                    } else {
+                        Err(WordWhy::Range)
+                    }
+                }
                 Err(why) => Err(why),
             },
             None => Err(WordWhy::Name),
@@ -67,11 +75,14 @@ fn named_op(name: CpuName, a: u32, b: u32) -> Op
 {
     match name {
         CpuName::Ipi => Op::Ipi(a as u8, b as u8),
+        CpuName::Ipl => Op::Ipl(a as u8, b as u8),
         CpuName::Nmi => Op::Nmi(a as u8),
         CpuName::Take => Op::Take,
         CpuName::Poll => Op::Poll,
         CpuName::Eoi => Op::Eoi,
         CpuName::Tpr => Op::Tpr(a as u8),
+        CpuName::Ldr => Op::Ldr(a as u8),
+        CpuName::Dfr => Op::Dfr(a as u8),
         CpuName::IoSel => Op::IoSel(a as u8, b as u8),
         CpuName::IoWin => Op::IoWin(a as u8, b),
         CpuName::IoRead => Op::IoRead(a as u8),

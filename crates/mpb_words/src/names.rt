@@ -1,17 +1,20 @@
 //! The names of words, and the greatest values of their numbers.
 
 ghost use Rattle.std.specs.Prelude.{◌≡◌, ◌≤◌, length};
-ghost use Rattle.mpb_words.specs.Words.{cpu_name_of, cpu_limits, device_name_of, device_limits};
+ghost use Rattle.mpb_words.specs.Words.{cpu_name_of, cpu_limits, is_in_range, device_name_of, device_limits};
 
 // the words of a processor
 #[derive(Clone, Copy)]
 pub(crate) enum CpuName {
     Ipi,
+    Ipl,
     Nmi,
     Take,
     Poll,
     Eoi,
     Tpr,
+    Ldr,
+    Dfr,
     IoSel,
     IoWin,
     IoRead,
@@ -32,11 +35,14 @@ pub(crate) fn cpu_name(text: &str) -> Option<CpuName>
 {
     match text {
         "ipi" => Some(CpuName::Ipi),
+        "ipl" => Some(CpuName::Ipl),
         "nmi" => Some(CpuName::Nmi),
         "take" => Some(CpuName::Take),
         "poll" => Some(CpuName::Poll),
         "eoi" => Some(CpuName::Eoi),
         "tpr" => Some(CpuName::Tpr),
+        "ldr" => Some(CpuName::Ldr),
+        "dfr" => Some(CpuName::Dfr),
         "iosel" => Some(CpuName::IoSel),
         "iowin" => Some(CpuName::IoWin),
         "ioread" => Some(CpuName::IoRead),
@@ -63,13 +69,24 @@ pub(crate) fn cpu_limits(name: CpuName) -> &'static [u32]
     ensures few { length result.now ≤ 2 }
 {
     match name {
-        CpuName::Ipi => &[255, 255],
-        CpuName::Nmi | CpuName::Tpr => &[255],
+        CpuName::Ipi | CpuName::Ipl => &[255, 255],
+        CpuName::Nmi | CpuName::Tpr | CpuName::Ldr => &[255],
+        CpuName::Dfr => &[15],
         CpuName::Take | CpuName::Poll | CpuName::Eoi => &[],
         CpuName::IoSel => &[3, 255],
         CpuName::IoWin => &[3, 0xFFFF_FFFF],
         CpuName::IoRead => &[3],
         CpuName::Pause => &[1_000_000],
+    }
+}
+
+// whether the first number is in range, where it is at most the greatest: a model of logical destinations is 0 or 15
+pub(crate) fn is_in_range(name: CpuName, a: u32) -> bool
+    ensures { result ≡ is_in_range name a }
+{
+    match name {
+        CpuName::Dfr => a == 0 || a == 15,
+        _ => true,
     }
 }
 

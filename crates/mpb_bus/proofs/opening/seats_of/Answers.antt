@@ -3,9 +3,9 @@ use Rattle.std.proofs.lemmas.List.{length-map, get_or_default}
 use Rattle.mpb_spec.specs.declared.agent.Agent.TheVariants.{Cpu}
 use Rattle.mpb_bus.specs.declared.view.AgentView.{AgentView}
 use Rattle.mpb_bus.specs.Seats.{AgentSeat, fresh_seat}
-use Rattle.mpb_bus.specs.Rule.{Sat, fresh_agent, no_agent, shown_agent, rest_of}
-use Rattle.mpb_bus.proofs.Lists.{map_one_more}
-use Rattle.mpb_bus.proofs.Starts.{first_of_rest, rest_of_rest}
+use Rattle.mpb_bus.specs.Rule.{Sat, fresh_agent, no_agent, shown_agent}
+use Rattle.mpb_spec.specs.Lists.{rest_of}
+use Rattle.mpb_spec.proofs.Lists.{map_one_more, first_of_rest, rest_of_rest}
 use Rattle.mpb_bus.proofs.opening.seats_of.Goals as goal
 
 pub loop-agent-preserved : goal.loop-agent-preserved

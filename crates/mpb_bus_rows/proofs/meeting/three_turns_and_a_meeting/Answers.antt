@@ -1,5 +1,5 @@
 use Rattle.std.proofs.Common.{◌≡◌, ◌∙◌, ap, subst}
-use Rattle.mpb_bus.specs.Agents.{IsPrefix, entries_of}
+use Rattle.mpb_spec.specs.Agents.{IsPrefix, entries_of}
 use Rattle.mpb_bus_rows.proofs.Lists.{told_on, three_more}
 use Rattle.mpb_bus_rows.proofs.meeting.three_turns_and_a_meeting.Goals as goal
 

@@ -1,8 +1,8 @@
 use Rattle.std.proofs.Common.{arith, ◌≡◌, ◌+◌, ◌++◌, ℕ, suc, List, set, get_or, take, drop, ap, ◌∙◌, bit_and, ◌/◌, ◌^◌}
 use Rattle.std.specs.Int.{bit_at}
 use Rattle.std.proofs.lemmas.Nat.Bits.{shr_and_one}
-use Rattle.mpb_latch.specs.Pulses.{with_pins_from}
-use Rattle.mpb_latch.proofs.Logs.{add_step}
+use Rattle.mpb_spec.specs.Pulses.{with_pins_from}
+use Rattle.mpb_spec.proofs.Logs.{add_step}
 use Rattle.mpb_latch.proofs.account.add_pins.Goals as goal
 
 pub loop-pin-preserved : goal.loop-pin-preserved

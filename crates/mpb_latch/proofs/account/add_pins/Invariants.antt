@@ -1,5 +1,5 @@
 use Rattle.std.proofs.Common.{◌≡◌, ◌++◌, take, drop}
-use Rattle.mpb_latch.specs.Pulses.{with_pins_from}
+use Rattle.mpb_spec.specs.Pulses.{with_pins_from}
 use Rattle.mpb_latch.proofs.account.add_pins.Given as goal
 
 abbrev pub invariant-loop-pin : goal.invariant-loop-pin

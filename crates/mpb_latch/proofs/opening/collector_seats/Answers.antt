@@ -4,7 +4,8 @@ use Rattle.std.specs.List.{range_with_len}
 use Rattle.mpb_latch.specs.declared.view.CollectorView.{CollectorView}
 use Rattle.mpb_latch.specs.Seats.{CollectorSeat, fresh_collector_seat}
 use Rattle.mpb_latch.specs.Rule.{no_collector, without_collector, shown_collector, fresh_collector, fresh_collectors}
-use Rattle.mpb_latch.proofs.Starts.{sum_map, fresh_count, first_left, rest_left, one_seat_more, seat_count}
+use Rattle.mpb_spec.proofs.Lists.{sum_map}
+use Rattle.mpb_latch.proofs.Starts.{fresh_count, first_left, rest_left, one_seat_more, seat_count}
 use Rattle.mpb_latch.proofs.opening.collector_seats.Goals as goal
 
 pub cut_collector-seat-requires-clause-all : goal.cut_collector-seat-requires-clause-all

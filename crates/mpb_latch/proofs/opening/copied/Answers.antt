@@ -1,7 +1,7 @@
 use Rattle.std.proofs.Common.{◌≡◌, ◌++◌, ◌∷◌, [], List, map, take, sym, ap, ◌∙◌}
 use Rattle.std.proofs.lemmas.List.{map-append}
-use Rattle.mpb_latch.specs.declared.pulse.Pulse.{Pulse}
-use Rattle.mpb_latch.proofs.Starts.{map_one_more}
+use Rattle.mpb_spec.specs.declared.pulse.Pulse.{Pulse}
+use Rattle.mpb_spec.proofs.Lists.{map_one_more}
 use Rattle.mpb_latch.proofs.opening.copied.Goals as goal
 
 pub loop-plan-preserved : goal.loop-plan-preserved

@@ -4,7 +4,7 @@ use Rattle.atomic_table.specs.Seated.{TableId}
 use Rattle.mpb_latch.specs.declared.view.DeviceView.{DeviceView}
 use Rattle.mpb_latch.specs.Seats.{DeviceSeat, fresh_device_seat}
 use Rattle.mpb_latch.specs.Rule.{fresh_device, no_device, shown_device, without_device}
-use Rattle.mpb_latch.proofs.Starts.{map_one_more, first_of_rest, rest_of_rest}
+use Rattle.mpb_spec.proofs.Lists.{map_one_more, first_of_rest, rest_of_rest}
 use Rattle.mpb_latch.proofs.opening.device_seats.Goals as goal
 
 pub loop-plan-preserved : goal.loop-plan-preserved

@@ -1,5 +1,5 @@
 use Rattle.std.proofs.Common.{◌≡◌, All, vec_len}
-use Rattle.mpb_latch.specs.Pulses.{IsInRange}
+use Rattle.mpb_spec.specs.Pulses.{IsInRange}
 use Rattle.mpb_latch_rows.proofs.crowd.on_one_pin.Given as goal
 
 abbrev pub invariant-loop : goal.invariant-loop

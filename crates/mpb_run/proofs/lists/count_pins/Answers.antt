@@ -1,7 +1,7 @@
 use Rattle.std.proofs.Common.{length, ap, ◌∙◌}
 use Rattle.std.proofs.lemmas.List.{with_items_is}
-use Rattle.mpb_latch.specs.Pulses.{with_pins}
-use Rattle.mpb_latch.proofs.Logs.{length-add}
+use Rattle.mpb_spec.specs.Pulses.{with_pins}
+use Rattle.mpb_spec.proofs.Logs.{length-add}
 use Rattle.mpb_run.proofs.ListLemmas.{map_changes}
 use Rattle.mpb_run.proofs.lists.count_pins.Goals as goal
 

@@ -17,4 +17,4 @@ loop-agent-preserved c =
     let gs = c.args.agents.now in
     let i = c.loop-agent.agent-index in
     let g : Agent = slice_index_or gs i (Cpu 0) in
-    one_turn c.args.run.now c.loop-agent.run c.turn.new.run gs i g c.requires.agents c.loop-agent.invariant (let l = c.loop-agent-test.true in omega arith) (get_or_default gs i (Cpu 0) g (let l = c.loop-agent-test.true in omega arith)) (c.in_default.ensures)
+    one_turn c.args.run.now c.loop-agent.run c.turn.new.run gs i g c.requires.agents c.loop-agent.invariant (let l = c.loop-agent-test.true in omega arith) (get_or_default gs i (Cpu 0) g (let l = c.loop-agent-test.true in omega arith)) c.turn.ensures

@@ -1,7 +1,7 @@
 use Rattle.std.proofs.Common.{◌+◌, ◌-◌}
 use Rattle.mpb_spec.specs.Plan.{plan_size}
 use Rattle.mpb_spec.specs.Room.{room}
-use Rattle.mpb_run_laws.specs.Rest.{done_in}
+use Rattle.mpb_robin.specs.Rest.{done_in}
 use Rattle.mpb_run.proofs.RobinLemmas.{IsAfterRounds}
 use Rattle.mpb_run.proofs.robin.run_to_end.Given as goal
 

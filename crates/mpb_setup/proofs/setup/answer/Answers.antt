@@ -5,7 +5,7 @@ use Rattle.mpb_spec.specs.Plan.{Plan, plan_size}
 use Rattle.mpb_spec.specs.Room.{room}
 use Rattle.mpb_spec.specs.Configs.{IsStartableAt}
 use Rattle.mpb_setup.specs.Board.{enabled_ids, board_config_of}
-use Rattle.mpb_setup.specs.Steps.{AreBytes}
+use Rattle.mpb_spec.specs.Numbers.{AreBytes}
 use Rattle.mpb_setup.proofs.ListLemmas.{are-bytes}
 use Rattle.mpb_setup.proofs.StartLemmas.{config_starts}
 use Rattle.mpb_setup.proofs.RoomLemmas.{config_small}

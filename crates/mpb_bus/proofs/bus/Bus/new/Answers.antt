@@ -1,6 +1,6 @@
 use Rattle.std.proofs.Common.{◌∙◌, sym, ap}
 use Rattle.mpb_board.specs.BoardView.{BoardView}
-use Rattle.mpb_bus.specs.Agents.{agents_of}
+use Rattle.mpb_spec.specs.Agents.{agents_of}
 use Rattle.mpb_bus.specs.Seats.{SharedBus}
 use Rattle.mpb_bus.proofs.Starts.{fresh_are_all}
 use Rattle.mpb_bus.proofs.bus.Bus.new.Goals as goal

@@ -2,10 +2,11 @@ use Rattle.std.proofs.Common.{◌≡◌, ℕ, List, arith, length, map, sym, ap,
 use Rattle.std.specs.List.{range_with_len}
 use Rattle.std.proofs.lemmas.List.{length-map}
 use Rattle.std.proofs.lemmas.List.FromFn.{length-range_with_len}
-use Rattle.mpb_latch.specs.Pulses.{planned}
+use Rattle.mpb_spec.specs.Pulses.{planned}
 use Rattle.mpb_latch.specs.Seats.{CollectorSeat, SharedLatch}
 use Rattle.mpb_latch.specs.Rule.{known_device, known_collector}
-use Rattle.mpb_latch.proofs.Starts.{map_map, full_mapped}
+use Rattle.mpb_spec.proofs.Lists.{map_map}
+use Rattle.mpb_latch.proofs.Starts.{full_mapped}
 use Rattle.mpb_latch.proofs.AtClose.{count_of, hits_settle, dry_settles, first_settles, plans_settle}
 use Rattle.mpb_latch.proofs.latch.Latch.close.Goals as goal
 
@@ -70,3 +71,12 @@ pub returns-clause-full : goal.returns-clause-full
 returns-clause-full c =
     let got = c.take_all-all.ensures in
     full_mapped known_collector known_device c.args.cols.items c.args.seats.items c.take_all-all.result.0.me.0.collectors c.take_all-all.result.0.me.0.devices got.collectors got.devices c.settle.ensures.full
+
+pub returns-clause-shape : goal.returns-clause-shape
+returns-clause-shape c =
+    let got = c.take_all-all.ensures in
+    let many = collectors_count c.args.cols.items c.args.self.ios c.requires.collectors.0 in
+    let same = ap (λ (ls : List (List ℕ)). length ls) got.counts in
+    let made = length-map c.take_all-all.result.2.items (λ l. l.items) in
+    let theirs = length-map c.args.cols.items (λ (s : CollectorSeat). s.counts) in
+    (omega arith, got.wide)

@@ -3,9 +3,9 @@ use mathlib.Core.Option.{some}
 use lib.ListN.{get_elem?}
 use Rattle.atomic_table.specs.Table.{keeps}
 use Rattle.std.specs.Int.{bit_at}
-use Rattle.mpb_latch.specs.Pulses.{with_pins_from, planned_in}
+use Rattle.mpb_spec.specs.Pulses.{with_pins_from, planned_in}
 use Rattle.mpb_latch.specs.Rule.{IsBalanced, collector_of, collector, after_collect}
-use Rattle.mpb_latch.proofs.Logs.{add_at}
+use Rattle.mpb_spec.proofs.Logs.{add_at}
 use Rattle.mpb_latch.proofs.Starts.{all_planned-le}
 use Rattle.mpb_latch.proofs.Others.{collects, mine, counted_are_planned}
 use Rattle.mpb_latch.proofs.latch.Latch.collect.Goals as goal

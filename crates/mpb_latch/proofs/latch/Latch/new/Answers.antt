@@ -3,7 +3,7 @@ use Rattle.std.proofs.lemmas.List.{length-map}
 use Rattle.std.proofs.lemmas.List.FromFn.{length-map-range_with_len}
 use Rattle.mpb_latch.specs.Seats.{DeviceSeat, CollectorSeat, fresh_device_seat, fresh_collector_seat}
 use Rattle.mpb_latch.specs.Rule.{fresh_device}
-use Rattle.mpb_latch.proofs.Starts.{map_map, sum_map}
+use Rattle.mpb_spec.proofs.Lists.{map_map, sum_map}
 use Rattle.mpb_latch.proofs.latch.Latch.new.Goals as goal
 
 pub device_seats-requires-clause-all : goal.device_seats-requires-clause-all

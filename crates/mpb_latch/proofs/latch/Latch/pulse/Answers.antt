@@ -6,13 +6,13 @@ use mathlib.Core.Option.{some}
 use lib.ListN.{get_elem?}
 use Rattle.atomic_table.specs.Seated.{TableId}
 use Rattle.atomic_table.specs.Table.{keeps}
-use Rattle.mpb_latch.specs.declared.pulse.Pulse.{Pulse}
-use Rattle.mpb_latch.specs.declared.pulse.Hit.{Hit}
+use Rattle.mpb_spec.specs.declared.pulse.Pulse.{Pulse}
+use Rattle.mpb_spec.specs.declared.pulse.Hit.{Hit}
 use Rattle.mpb_latch.specs.declared.view.DeviceView.{DeviceView}
-use Rattle.mpb_latch.specs.Pulses.{FollowsPlan, hit_of}
+use Rattle.mpb_spec.specs.Pulses.{FollowsPlan, hit_of}
 use Rattle.mpb_latch.specs.Seats.{DeviceSeat}
 use Rattle.mpb_latch.specs.Rule.{device_of, no_pulse, next_of, device, shown_device, after_pulse}
-use Rattle.mpb_latch.proofs.Logs.{follows_next}
+use Rattle.mpb_spec.proofs.Logs.{follows_next}
 use Rattle.mpb_latch.proofs.Pulses.{still_goes, pulses}
 use Rattle.mpb_latch.proofs.latch.Latch.pulse.Goals as goal
 

@@ -1,6 +1,6 @@
 use Rattle.std.proofs.Common.{ℕ, List, ap}
-use Rattle.mpb_latch.specs.PlainLatch.{PlainState}
-use Rattle.mpb_latch.proofs.Words.{take-zeros}
+use Rattle.mpb_spec.specs.PlainLatch.{PlainState}
+use Rattle.mpb_spec.proofs.PinWords.{take-zeros}
 use Rattle.mpb_latch.proofs.plain.PlainLatch.new.Goals as goal
 
 abbrev unended : ℕ → List ℕ → PlainState

@@ -2,8 +2,8 @@ use Rattle.std.proofs.Common.{◌≡◌, ◌<◌, ◌^◌, ◌≤◌, ◌*◌, �
 use Rattle.std.specs.Int.{bit_at}
 use Rattle.std.proofs.lemmas.List.{length-take-le}
 use Rattle.std.proofs.lemmas.List.Elements.{All-set}
-use Rattle.mpb_latch.specs.PlainLatch.{PlainState}
-use Rattle.mpb_latch.proofs.Words.{with_pin_lt, words_pulsed, pins_pulsed}
+use Rattle.mpb_spec.specs.PlainLatch.{PlainState}
+use Rattle.mpb_spec.proofs.PinWords.{with_pin_lt, words_pulsed, pins_pulsed}
 use Rattle.mpb_latch.proofs.plain.PlainLatch.pulse.Goals as goal
 
 abbrev state : List ℕ → ℕ → ℕ → PlainState

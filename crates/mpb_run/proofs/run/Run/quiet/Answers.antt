@@ -1,6 +1,6 @@
 use Rattle.std.proofs.Common.{◌↔◌, IsTrue, subst}
 use Rattle.mpb_spec.specs.May.{IsQuiescent}
-use Rattle.mpb_run_laws.specs.RoundRobin.{Run, state_in}
+use Rattle.mpb_robin.specs.RoundRobin.{Run, state_in}
 use Rattle.mpb_run.proofs.run.Run.quiet.Goals as goal
 
 pub returns : goal.returns

@@ -1,8 +1,0 @@
-use Rattle.mpb_run_laws.proofs.AtTheEnd.{is_complete, is_accounted}
-use Rattle.mpb_run_laws.proofs.laws.round_robins_are_complete.Goals as goal
-
-pub returns-clause-complete : goal.returns-clause-complete
-returns-clause-complete c = is_complete
-
-pub returns-clause-accounts : goal.returns-clause-accounts
-returns-clause-accounts c = is_accounted
