@@ -1,0 +1,9 @@
+pub mod Stepping
+pub mod Positions
+pub mod Sweeps
+pub mod Collecting
+pub mod Makings
+pub mod Crews
+pub mod Members
+pub mod AtClose
+pub mod Opened

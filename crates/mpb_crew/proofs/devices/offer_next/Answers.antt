@@ -1,0 +1,11 @@
+use Rattle.std.proofs.Common.{subst}
+use Rattle.mpb_spec.specs.declared.agent.Offer.TheVariants.{Next}
+use Rattle.mpb_crew.specs.declared.answer.Answer.{Answer}
+use Rattle.mpb_crew.specs.Workers.{Took}
+use Rattle.mpb_crew.proofs.Makings.{never_rests_after}
+use Rattle.mpb_crew.proofs.devices.offer_next.Goals as goal
+
+pub unreachable-requires : goal.unreachable-requires
+unreachable-requires g c =
+    let took = subst (λ (t : Answer). Took c.loop.seat Next t c.step.new.seat) c.in-Quiet.is c.step.ensures in
+    never_rests_after c.args.device c.args.words.now c.args.seat.now c.loop.seat c.step.new.seat c.requires.config c.requires.device c.requires.left c.loop.invariant.0 c.loop.invariant.1 took
