@@ -1,0 +1,4 @@
+pub mod ListLemmas
+pub mod SoundLemmas
+pub mod ValueLemmas
+pub mod DrillLemmas

@@ -1,0 +1,184 @@
+//! The summary of a drill.
+
+ghost use Rattle.std.specs.Prelude.{◌≡◌, ◌<◌, ◌≤◌, ◌^◌, ◌++◌, None, count_by, IfOk, OnOk, length, sum_by};
+ghost use Rattle.std.specs.List.{concat};
+ghost use Rattle.mpt_route.specs.Platform.{platform_of};
+ghost use Rattle.mpb_spec.specs.Pulses.{logs_of};
+ghost use Rattle.mpb_robin.specs.RoundRobin.{IsRoundRobinOf};
+ghost use Rattle.mpb_spec.specs.Plan.{plan_size};
+ghost use Rattle.mpb_spec.specs.declared.fault.BoardError.TheVariants as fault;
+ghost use Rattle.mpb_drill.specs.Drill.{drill_tables, drill_script};
+ghost use Rattle.mpb_tally.specs.Tally.{tally_of};
+ghost use Rattle.mpb_tally.specs.Summary.{is_routed, size_lines, count_lines, summary_of, drill_routes, drill_board, IsSummaryOf};
+
+use crate::counting::tally_of;
+use crate::tally::Tally;
+use mpb_board::Board;
+use mpb_drill::{drill_script, drill_tables, drills_have_boards};
+use mpb_run::{Ran, round_robin};
+use mpb_script::Script;
+use mpb_setup::config;
+use mpb_spec::{BoardError, Config};
+use mpt_base::NoMemory;
+use mpt_listing::{Part, push_line};
+use mpt_route::{Answer, Platform, platform_of, routes};
+use std::alloc::{AllocError, Global};
+
+/// The summary of the drill with this number, below 10,000: its board is made of its tables and its
+/// script, runs by the round robin, and is counted. It fails only where memory runs out.
+pub fn drill_summary(alloc: Global, n: u32) -> Result<Vec<u8>, NoMemory>
+    requires { n < 10000 }
+    ensures summary { IfOk result (λ text. IsSummaryOf n text.items) }
+{
+    drills_have_boards();
+    let tables = drill_tables(alloc, n)?;
+    let script = drill_script(alloc, n)?;
+    let platform = platform_of(alloc, &tables)?;
+    let answers = routes(alloc, &platform, 0)?;
+    let config = board_of(alloc, n, &platform, answers.as_slice(), &script)?;
+    let ran = ran(alloc, config)?;
+    let tally = tally_of(&ran.board, &ran.account);
+    match text(alloc, n, routed_in(answers.as_slice()), tally) {
+        Ok(text) => Ok(text),
+        Err(_) => Err(NoMemory),
+    }
+}
+
+// the config of its board; nothing speaks against it
+fn board_of(
+    alloc: Global,
+    n: u32,
+    platform: &Platform,
+    answers: &[Answer],
+    script: &Script,
+) -> Result<Config, NoMemory>
+    requires platform { platform.now ≡ platform_of (drill_tables n) }
+    requires answers { answers.now ≡ drill_routes n }
+    requires script { script.now ≡ drill_script n }
+    ensures board { IfOk result (λ c. c ≡ drill_board n) }
+    ensures small { IfOk result (λ c. plan_size c < 2 ^ 32) }
+{
+    drills_have_boards();
+    match config(alloc, platform, answers, script) {
+        Ok(config) => Ok(config),
+        Err(error) => Err(no_memory(error)),
+    }
+}
+
+// the one refusal where nothing speaks against the board
+fn no_memory(error: BoardError) -> NoMemory
+    requires { error ≡ fault.NoMemory }
+{
+    let _ = error;
+    NoMemory
+}
+
+// the board, run to its end
+fn ran(alloc: Global, config: Config) -> Result<Ran, NoMemory>
+    requires small { plan_size config < 2 ^ 32 }
+    ensures robin { IfOk result (λ ran. IsRoundRobinOf config ran.board.journal (logs_of ran.account)) }
+    ensures few { IfOk result (λ ran. sum_by length (logs_of ran.account) < 2 ^ 32) }
+{
+    match Board::new(alloc, config) {
+        Ok(board) => round_robin(alloc, board),
+        Err(error) => Err(error),
+    }
+}
+
+// how many interrupts have a route
+fn routed_in(answers: &[Answer]) -> u64
+    ensures { result ≡ count_by is_routed answers.now }
+{
+    answers.iter().filter(|a| is_routed(a)).count() as u64
+}
+
+fn is_routed(answer: &Answer) -> bool
+    ensures { result ≡ is_routed answer.now }
+{
+    match answer {
+        Answer::Routed(_) => true,
+        Answer::Unrouted { .. } => false,
+    }
+}
+
+// the text
+fn text(alloc: Global, n: u32, routes: u64, tally: Tally) -> Result<Vec<u8>, AllocError>
+    ensures { IfOk result (λ text. text.items ≡ summary_of n routes tally) }
+{
+    let mut out = Vec::new(alloc);
+    let processors = u64::from(2 + n % 7);
+    let ioapics = u64::from(1 + n % 4);
+    push_sizes(
+        &mut out,
+        u64::from(n),
+        processors,
+        tally.started,
+        ioapics,
+        routes,
+    )?;
+    push_counts(&mut out, tally)?;
+    Ok(out)
+}
+
+// the lines of the sizes
+fn push_sizes(
+    out: &mut Vec<u8>,
+    n: u64,
+    processors: u64,
+    started: u64,
+    ioapics: u64,
+    routes: u64,
+) -> Result<(), AllocError>
+    ensures { OnOk result (out.new.items ≡ out.old.items ++ concat (size_lines n processors started ioapics routes)) }
+{
+    push_line(out, &[Part::Text(b"drill "), Part::Decimal(n)])?;
+    push_line(
+        out,
+        &[
+            Part::Text(b"processors "),
+            Part::Decimal(processors),
+            Part::Text(b" started "),
+            Part::Decimal(started),
+        ],
+    )?;
+    push_line(
+        out,
+        &[
+            Part::Text(b"ioapics "),
+            Part::Decimal(ioapics),
+            Part::Text(b" routes "),
+            Part::Decimal(routes),
+        ],
+    )
+}
+
+// the lines of the counts, and the last
+fn push_counts(out: &mut Vec<u8>, tally: Tally) -> Result<(), AllocError>
+    ensures { OnOk result (out.new.items ≡ out.old.items ++ concat (count_lines tally)) }
+{
+    push_line(
+        out,
+        &[Part::Text(b"entries "), Part::Decimal(tally.entries)],
+    )?;
+    push_line(
+        out,
+        &[
+            Part::Text(b"pulses "),
+            Part::Decimal(tally.pulses),
+            Part::Text(b" new "),
+            Part::Decimal(tally.fresh),
+            Part::Text(b" merged "),
+            Part::Decimal(tally.merged),
+        ],
+    )?;
+    push_line(
+        out,
+        &[
+            Part::Text(b"set "),
+            Part::Decimal(tally.sets),
+            Part::Text(b" taken "),
+            Part::Decimal(tally.takes),
+        ],
+    )?;
+    push_line(out, &[Part::Text(b"end")])
+}
