@@ -6,10 +6,10 @@ use Rattle.mpb_spec.specs.Plan.{Plan}
 use Rattle.mpb_spec.specs.Configs.{IsStartableAt}
 use Rattle.mpb_spec.specs.Journal.{IsComplete}
 use Rattle.mpb_start_laws.specs.Starts.{IsStartedOnce}
-use Rattle.mpb_latch.specs.declared.pulse.Pulse.{Pulse}
-use Rattle.mpb_latch.specs.declared.pulse.Hit.{Hit}
-use Rattle.mpb_run_laws.specs.Account.{AccountsForPulses}
-use Rattle.mpb_run_laws.specs.RoundRobin.{IsRoundRobinOf}
+use Rattle.mpb_spec.specs.declared.pulse.Pulse.{Pulse}
+use Rattle.mpb_spec.specs.declared.pulse.Hit.{Hit}
+use Rattle.mpb_robin.specs.Account.{AccountsForPulses}
+use Rattle.mpb_robin.specs.RoundRobin.{IsRoundRobinOf}
 use Rattle.mpb_report.specs.Report.{report_of}
 use Rattle.mpb_boot.specs.Boot.{IsTraceOf, IsBootOf}
 

@@ -15,10 +15,10 @@ use Rattle.mpb_script.specs.declared.script.Script.{Script}
 use Rattle.mpb_setup.specs.Board.{board_config_of}
 use Rattle.mpb_setup.specs.Faults.{board_fault_of}
 use Rattle.mpb_start_laws.specs.Starts.{IsStartedOnce}
-use Rattle.mpb_latch.specs.declared.pulse.Pulse.{Pulse}
-use Rattle.mpb_latch.specs.declared.pulse.Hit.{Hit}
-use Rattle.mpb_run_laws.specs.Account.{AccountsForPulses}
-use Rattle.mpb_run_laws.specs.RoundRobin.{IsRoundRobinOf}
+use Rattle.mpb_spec.specs.declared.pulse.Pulse.{Pulse}
+use Rattle.mpb_spec.specs.declared.pulse.Hit.{Hit}
+use Rattle.mpb_robin.specs.Account.{AccountsForPulses}
+use Rattle.mpb_robin.specs.RoundRobin.{IsRoundRobinOf}
 use Rattle.mpb_report.specs.Report.{report_of}
 
 -- the board that the tables and the script describe

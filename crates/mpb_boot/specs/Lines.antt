@@ -1,7 +1,8 @@
--- The lines for a script or a board that is refused, this project's own.
+-- The lines for a script or a board that is refused, and for the verdict on a report, this project's own.
 --     script_fault_line f    the script is refused
 --     board_fault_line f     tables and script describe no board
 --     IsScriptFault f, IsBoardFault f    it is no want of memory
+--     verdict_line v         the verdict on a report
 use Rattle.std.specs.Prelude.{ℕ, List, [], ◌∷◌, codes, decimal, ⊤}
 use Rattle.mpt_listing.specs.Listing.{line, hex}
 use Rattle.mpb_spec.specs.declared.fault.BoardError.{BoardError}
@@ -13,6 +14,10 @@ use Rattle.mpb_script.specs.declared.script.KeyName.TheVariants as key
 use Rattle.mpb_script.specs.declared.script.ScriptFault.{ScriptFault}
 use Rattle.mpb_script.specs.declared.script.ScriptFault.TheVariants as fault
 use Rattle.mpb_report.specs.EntryLines.{agent_text}
+use Rattle.mpb_replay_laws.specs.declared.verdict.BadWhy.{BadWhy}
+use Rattle.mpb_replay_laws.specs.declared.verdict.BadWhy.TheVariants as bad_why
+use Rattle.mpb_replay_laws.specs.declared.verdict.Verdict.{Verdict}
+use Rattle.mpb_replay_laws.specs.declared.verdict.Verdict.TheVariants as verdict
 
 -- the name of a key
 abbrev pub key_text : KeyName → List ℕ
@@ -61,3 +66,19 @@ board_fault_line (board.ManyCpus n) = line (codes "mptab: board many processors 
 board_fault_line (board.ManyIo n) = line (codes "mptab: board many ioapics " ∷ decimal n ∷ [])
 board_fault_line (board.NoIo place) = line (codes "mptab: board no ioapic " ∷ decimal place ∷ [])
 board_fault_line board.NoMemory = []
+
+-- why an entry is no step
+abbrev pub bad_why_text : BadWhy → List ℕ
+bad_why_text bad_why.NoAgent = codes "NoAgent"
+bad_why_text bad_why.Waits = codes "Waits"
+bad_why_text bad_why.Program = codes "Program"
+bad_why_text bad_why.Outcome = codes "Outcome"
+
+-- the verdict on a report
+abbrev pub verdict_line : Verdict → List ℕ
+verdict_line verdict.Legal = line (codes "replay legal" ∷ [])
+verdict_line (verdict.Bad entry w) = line (codes "replay bad " ∷ decimal entry ∷ codes " " ∷ bad_why_text w ∷ [])
+verdict_line (verdict.Unfinished agent) = line (codes "replay unfinished " ∷ agent_text agent ∷ [])
+verdict_line (verdict.Log device) = line (codes "replay log " ∷ decimal device ∷ [])
+verdict_line (verdict.Accounts io pin) = line (codes "replay accounts " ∷ decimal io ∷ codes " " ∷ decimal pin ∷ [])
+verdict_line (verdict.State n) = line (codes "replay state " ∷ decimal n ∷ [])

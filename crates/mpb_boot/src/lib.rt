@@ -6,6 +6,7 @@ mod lines;
 mod reports;
 mod setup;
 
-pub use lines::{board_fault_line, script_fault_line};
-pub use reports::{boot_in_turns, trace};
+pub use lines::{board_fault_line, script_fault_line, verdict_line};
+pub use mpb_crew::{Gate, NoGate};
+pub use reports::{boot, boot_in_turns, trace};
 pub use setup::board;

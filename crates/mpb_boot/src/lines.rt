@@ -1,4 +1,4 @@
-//! The lines for a script or a board that is refused.
+//! The lines for a script or a board that is refused, and for the verdict on a report.
 
 ghost use Rattle.std.specs.Prelude.{◌≡◌, ◌∷◌, [], map, decimal, IfOk};
 ghost use Rattle.std.specs.List.{concat};
@@ -6,8 +6,10 @@ ghost use Rattle.mpt_listing.specs.Listing.{line, hex};
 ghost use Rattle.mpt_listing.specs.Part.{part_text};
 ghost use Rattle.mpb_script.specs.declared.script.ScriptFault.TheVariants.{Word};
 ghost use Rattle.mpb_report.specs.EntryLines.{agent_text};
-ghost use Rattle.mpb_boot.specs.Lines.{key_text, word_why_text, script_fault_line, board_fault_line, IsScriptFault, IsBoardFault};
+ghost use Rattle.mpb_replay_laws.specs.declared.verdict.Verdict.TheVariants.{Unfinished};
+ghost use Rattle.mpb_boot.specs.Lines.{key_text, word_why_text, script_fault_line, board_fault_line, IsScriptFault, IsBoardFault, bad_why_text, verdict_line};
 
+use mpb_replay_laws::{BadWhy, Verdict};
 use mpb_script::{KeyName, ScriptFault, WordWhy};
 use mpb_spec::{Agent, BoardError};
 use mpt_base::NoMemory;
@@ -142,4 +144,57 @@ fn count_line(alloc: Global, text: &[u8], n: u32) -> Result<Vec<u8>, NoMemory>
     ensures { IfOk result (λ t. t.items ≡ line (text.now ∷ decimal n ∷ [])) }
 {
     line_of(alloc, &[Part::Text(text), Part::Decimal(u64::from(n))])
+}
+
+/// The line for the verdict on a report.
+pub fn verdict_line(alloc: Global, verdict: Verdict) -> Result<Vec<u8>, NoMemory>
+    ensures { IfOk result (λ text. text.items ≡ verdict_line verdict) }
+{
+    match verdict {
+        Verdict::Legal => line_of(alloc, &[Part::Text(b"replay legal")]),
+        Verdict::Bad { entry, why } => line_of(
+            alloc,
+            &[
+                Part::Text(b"replay bad "),
+                Part::Decimal(u64::from(entry)),
+                Part::Text(b" "),
+                Part::Text(bad_why_name(why)),
+            ],
+        ),
+        Verdict::Unfinished { agent } => unfinished_line(alloc, agent),
+        Verdict::Log { device } => count_line(alloc, b"replay log ", u32::from(device)),
+        Verdict::Accounts { io, pin } => line_of(
+            alloc,
+            &[
+                Part::Text(b"replay accounts "),
+                Part::Decimal(u64::from(io)),
+                Part::Text(b" "),
+                Part::Decimal(u64::from(pin)),
+            ],
+        ),
+        Verdict::State { line } => count_line(alloc, b"replay state ", line),
+    }
+}
+
+// the line for an agent that may still step
+#[tactic(auto, using(crate::proofs::LineLemmas::word_line_is))]
+fn unfinished_line(alloc: Global, agent: Agent) -> Result<Vec<u8>, NoMemory>
+    ensures { IfOk result (λ text. text.items ≡ verdict_line (Unfinished agent)) }
+{
+    let (kind, number) = agent_parts(agent);
+    line_of(
+        alloc,
+        &[Part::Text(b"replay unfinished "), Part::Text(kind), number],
+    )
+}
+
+fn bad_why_name(why: BadWhy) -> &'static [u8]
+    ensures { result.now ≡ bad_why_text why }
+{
+    match why {
+        BadWhy::NoAgent => b"NoAgent",
+        BadWhy::Waits => b"Waits",
+        BadWhy::Program => b"Program",
+        BadWhy::Outcome => b"Outcome",
+    }
 }

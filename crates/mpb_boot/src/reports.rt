@@ -5,17 +5,20 @@ ghost use Rattle.mpb_spec.specs.Configs.{IsStartableAt};
 ghost use Rattle.mpb_spec.specs.Plan.{plan_size};
 ghost use Rattle.mpb_spec.specs.Journal.{IsComplete};
 ghost use Rattle.mpb_start_laws.specs.Starts.{IsStartedOnce};
-ghost use Rattle.mpb_latch.specs.Pulses.{logs_of};
-ghost use Rattle.mpb_run_laws.specs.Account.{AccountsForPulses};
-ghost use Rattle.mpb_run_laws.specs.RoundRobin.{IsRoundRobinOf};
+ghost use Rattle.mpb_spec.specs.Pulses.{logs_of};
+ghost use Rattle.mpb_robin.specs.Account.{AccountsForPulses};
+ghost use Rattle.mpb_robin.specs.RoundRobin.{IsRoundRobinOf};
 ghost use Rattle.mpb_boot.specs.Boot.{IsTraceOf, IsBootOf};
 
 use mpb_board::Board;
+use mpb_crew::{Gate, threads};
 use mpb_report::report_text;
 use mpb_run::{Ran, round_robin};
 use mpb_spec::Config;
 use mpt_base::NoMemory;
 use std::alloc::Global;
+use std::sync::Wait;
+use std::thread::Threads;
 
 // the board of the config, run to its end
 fn ran(alloc: Global, config: Config) -> Result<Ran, NoMemory>
@@ -50,6 +53,42 @@ pub fn boot_in_turns(alloc: Global, config: Config) -> Result<Vec<u8>, NoMemory>
     ensures boot { IfOk result (λ t. (page : ℕ) → IsStartableAt page config → IsBootOf page config t.items) }
 {
     match ran(alloc, config) {
+        Ok(ran) => report_text(alloc, &ran.board, &ran.account),
+        Err(error) => Err(error),
+    }
+}
+
+// the board of the config, run to its end by threads
+fn ran_by_threads<R: Threads + Wait + Sync, G: Gate + Sync>(
+    rt: &R,
+    alloc: Global,
+    config: Config,
+    gate: &G,
+) -> Result<Ran, NoMemory>
+    requires small { plan_size config < 2 ^ 32 }
+    ensures plan { IfOk result (λ ran. ran.board.plan ≡ config) }
+    ensures complete { IfOk result (λ ran. IsComplete config ran.board.journal) }
+    ensures accounts { IfOk result (λ ran. AccountsForPulses config ran.board.journal (logs_of ran.account)) }
+    ensures started { IfOk result (λ ran. (page : ℕ) → IsStartableAt page config → IsStartedOnce page config ran.board.journal) }
+{
+    match Board::new(alloc, config) {
+        Ok(board) => threads(rt, alloc, board, gate),
+        Err(error) => Err(error),
+    }
+}
+
+/// The report of a boot of the config's board, each of whose agents has a thread of its own and passes the
+/// gate before each of its turns. The boot program starts the other processors at the page. It may wait.
+pub fn boot<R: Threads + Wait + Sync, G: Gate + Sync>(
+    rt: &R,
+    alloc: Global,
+    config: Config,
+    gate: &G,
+) -> Result<Vec<u8>, NoMemory>
+    requires small { plan_size config < 2 ^ 32 }
+    ensures boot { IfOk result (λ t. (page : ℕ) → IsStartableAt page config → IsBootOf page config t.items) }
+{
+    match ran_by_threads(rt, alloc, config, gate) {
         Ok(ran) => report_text(alloc, &ran.board, &ran.account),
         Err(error) => Err(error),
     }

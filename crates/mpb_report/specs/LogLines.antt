@@ -5,9 +5,9 @@
 use Rattle.std.specs.Prelude.{ℕ, List, [], ◌∷◌, codes, decimal}
 use Rattle.std.specs.List.{concat, flat_map}
 use Rattle.mpt_listing.specs.Listing.{line}
-use Rattle.mpb_latch.specs.declared.pulse.Pulse.{Pulse}
-use Rattle.mpb_latch.specs.declared.pulse.Hit.{Hit}
-use Rattle.mpb_latch.specs.declared.pulse.Hit.TheVariants.{New, Merged}
+use Rattle.mpb_spec.specs.declared.pulse.Pulse.{Pulse}
+use Rattle.mpb_spec.specs.declared.pulse.Hit.{Hit}
+use Rattle.mpb_spec.specs.declared.pulse.Hit.TheVariants.{New, Merged}
 
 -- what the latch answered
 abbrev pub hit_text : Hit → List ℕ

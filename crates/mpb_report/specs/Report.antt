@@ -7,8 +7,8 @@ use Rattle.mpt_listing.specs.Listing.{line}
 use Rattle.mpb_spec.specs.declared.entry.Entry.{Entry}
 use Rattle.mpb_spec.specs.Plan.{Plan}
 use Rattle.mpb_spec.specs.Journal.{final_state_of}
-use Rattle.mpb_latch.specs.declared.pulse.Pulse.{Pulse}
-use Rattle.mpb_latch.specs.declared.pulse.Hit.{Hit}
+use Rattle.mpb_spec.specs.declared.pulse.Pulse.{Pulse}
+use Rattle.mpb_spec.specs.declared.pulse.Hit.{Hit}
 use Rattle.mpb_report.specs.Numbered.{numbered}
 use Rattle.mpb_report.specs.EntryLines.{entry_line}
 use Rattle.mpb_report.specs.LogLines.{log_line}

@@ -71,11 +71,22 @@ fn push_op(out: &mut Vec<u8>, op: Op) -> Result<(), AllocError>
                 Part::Hex(2, vector as u64),
             ],
         ),
+        Op::Ipl(dest, vector) => push_parts(
+            out,
+            &[
+                Part::Text(b"ipl "),
+                Part::Hex(2, dest as u64),
+                Part::Text(b" "),
+                Part::Hex(2, vector as u64),
+            ],
+        ),
         Op::Nmi(id) => push_parts(out, &[Part::Text(b"nmi "), Part::Hex(2, id as u64)]),
         Op::Take => push_text(out, b"take"),
         Op::Poll => push_text(out, b"poll"),
         Op::Eoi => push_text(out, b"eoi"),
         Op::Tpr(priority) => push_parts(out, &[Part::Text(b"tpr "), Part::Hex(2, priority as u64)]),
+        Op::Ldr(dest) => push_parts(out, &[Part::Text(b"ldr "), Part::Hex(2, dest as u64)]),
+        Op::Dfr(model) => push_parts(out, &[Part::Text(b"dfr "), Part::Hex(2, model as u64)]),
         Op::IoSel(place, index) => push_parts(
             out,
             &[

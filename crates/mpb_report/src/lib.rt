@@ -13,3 +13,4 @@ mod vectors;
 pub use entry_lines::push_entry_line;
 pub use laws::sets_are_printed_whole;
 pub use printing::report_text;
+pub use vectors::{Register, members};

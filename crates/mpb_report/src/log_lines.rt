@@ -6,7 +6,7 @@ ghost use Rattle.mpb_report.specs.Numbered.{numbered};
 ghost use Rattle.mpb_report.specs.LogLines.{hit_text, pulse_text, pulses_text, log_line};
 
 use crate::parts::push_parts;
-use mpb_latch::{Hit, Pulse};
+use mpb_spec::{Hit, Pulse};
 use mpt_listing::{Part, push_text};
 use std::alloc::AllocError;
 

@@ -2,14 +2,14 @@
 
 ghost use Rattle.std.specs.Prelude.{◌≡◌, ◌++◌, IfOk, OnOk};
 ghost use Rattle.std.specs.List.{concat};
-ghost use Rattle.mpb_latch.specs.Pulses.{logs_of};
+ghost use Rattle.mpb_spec.specs.Pulses.{logs_of};
 ghost use Rattle.mpb_report.specs.Report.{journal_lines, report_of};
 
 use crate::entry_lines::push_entry_lines;
 use crate::log_lines::push_log_lines;
 use crate::state_lines::push_state_lines;
 use mpb_board::{Board, Entry};
-use mpb_latch::Account;
+use mpb_spec::Account;
 use mpt_base::NoMemory;
 use mpt_listing::{Part, push_line};
 use std::alloc::{AllocError, Global};

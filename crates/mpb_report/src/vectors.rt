@@ -30,9 +30,9 @@ pub fn push_register(out: &mut Vec<u8>, lapic: &Lapic, register: Register) -> Re
     push_vectors(out, vectors.as_slice())
 }
 
-// the vectors of a register, ascending
+/// The vectors of a register, ascending.
 #[tactic(auto, using(crate::proofs::MemberLemmas::members_none, crate::proofs::MemberLemmas::members_with, crate::proofs::MemberLemmas::members_without, crate::proofs::MemberLemmas::members_all))]
-fn members(lapic: &Lapic, register: Register) -> ArrayVec<u8, 256>
+pub fn members(lapic: &Lapic, register: Register) -> ArrayVec<u8, 256>
     ensures { result.items ≡ members (register_of register lapic.now) }
 {
     let mut vectors = ArrayVec::new();

@@ -66,6 +66,9 @@ const OPS: &[(Op, &str)] = &[
     (Op::Poll, "9 dev 3 poll : done\n"),
     (Op::Eoi, "9 dev 3 eoi : done\n"),
     (Op::Tpr(0xC0), "9 dev 3 tpr C0 : done\n"),
+    (Op::Ldr(0x80), "9 dev 3 ldr 80 : done\n"),
+    (Op::Dfr(15), "9 dev 3 dfr 0F : done\n"),
+    (Op::Ipl(0x13, 0x40), "9 dev 3 ipl 13 40 : done\n"),
     (Op::IoSel(3, 0x3F), "9 dev 3 iosel 3 3F : done\n"),
     (
         Op::IoWin(1, 0xDEAD_BEEF),

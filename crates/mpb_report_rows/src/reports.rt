@@ -3,7 +3,7 @@
 use crate::boards::{one_level, three_pulses, two_processors};
 use crate::steps::{account_of, has_report, is_quiet, opened, silent_account, steps};
 use mpb_board::{Agent, Offer};
-use mpb_latch::Hit;
+use mpb_spec::Hit;
 
 #[test]
 fn two_processors_start(rt: HostRuntime) {

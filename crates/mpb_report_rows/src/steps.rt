@@ -4,8 +4,8 @@ ghost use Rattle.std.specs.Prelude.{◌<◌, ◌^◌, IfOk, IfSome};
 ghost use Rattle.mpb_spec.specs.Plan.{plan_size};
 
 use mpb_board::{Agent, Board, Config, Offer};
-use mpb_latch::{Account, Hit, Pulse};
 use mpb_report::report_text;
+use mpb_spec::{Account, Hit, Pulse};
 use std::alloc::{AllocError, Global};
 use std::fmt::Debug;
 use std::process::Abort;
@@ -51,9 +51,7 @@ fn step(rt: &impl Abort, board: &mut Board, agent: Agent, offer: Offer) {
     if !board.can_step(agent, offer) {
         panic!(rt; "no step for entry {number}");
     }
-    if board.step(agent, offer).is_err() {
-        panic!(rt; "out of memory");
-    }
+    board.step(agent, offer);
 }
 
 /// Asserts that no agent may step.

@@ -1,4 +1,4 @@
-use Rattle.mpb_latch.specs.Pulses.{logs_of}
+use Rattle.mpb_spec.specs.Pulses.{logs_of}
 use Rattle.mpb_boot.proofs.ReportLemmas.{booted}
 use Rattle.mpb_boot.proofs.reports.boot_in_turns.Goals as goal
 

@@ -1,6 +1,6 @@
 use Rattle.std.proofs.Common.{◌∷◌, [], ◌++◌, map, ap, ◌∙◌}
 use Rattle.std.specs.List.{concat}
-use Rattle.mpb_latch.specs.Pulses.{logs_of}
+use Rattle.mpb_spec.specs.Pulses.{logs_of}
 use Rattle.mpb_board.specs.BoardView.{state_of}
 use Rattle.mpb_report.specs.Numbered.{numbered}
 use Rattle.mpb_report.specs.LogLines.{log_line}

@@ -1,0 +1,10 @@
+pub mod Equality
+pub mod Offers
+pub mod Reasons
+pub mod Positions
+pub mod Firsts
+pub mod OneVerdict
+pub mod Verdicts
+pub mod Accounted
+pub mod Able
+pub mod Settling

@@ -1,0 +1,5 @@
+pub mod Complete
+pub mod RightOps
+pub mod Fitting
+pub mod Outcomes
+pub mod Reported

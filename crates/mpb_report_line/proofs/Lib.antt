@@ -1,0 +1,9 @@
+pub mod NumeralLemmas
+pub mod RunLemmas
+pub mod VectorLemmas
+pub mod Parts
+pub mod OpForms
+pub mod OutcomeForms
+pub mod EntryForms
+pub mod LogForms
+pub mod StateForms
