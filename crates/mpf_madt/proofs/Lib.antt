@@ -1,0 +1,10 @@
+pub mod EntryLemmas
+pub mod FaultLemmas
+pub mod LawfulLemmas
+pub mod WrittenLemmas
+pub mod SpelledLemmas
+pub mod FirstLemmas
+pub mod TranslationLemmas
+pub mod MaskLemmas
+pub mod SizeLemmas
+pub mod SourceLemmas

@@ -1,0 +1,27 @@
+use Rattle.std.proofs.Common.{◌*◌, ◌<◌, length, ap, sym, ◌∙◌, arith}
+use Rattle.mpt_spec.specs.declared.entry.IoApic.{IoApic}
+use Rattle.mpf_madt.proofs.TranslationLemmas.{io_pushed, io_passed}
+use Rattle.mpf_madt.proofs.translation.ios.Goals as goal
+use Rattle.mpf_madt.proofs.translation.ios.Goals.{then-is_enabled+in_ok-push, else-is_enabled}
+
+-- what the code's indexing names past the end
+d : IoApic
+d = record { id = 0; version = 0; flags = 0; address = 0 }
+
+pub loop-io-preserved : goal.loop-io-preserved
+unfolding d
+loop-io-preserved c =
+    let es = c.args.ios.now in
+    let i = c.loop-io.io-index in
+    let inside : i < length es = omega (arith, c.loop-io-test.true) in
+    let was = c.loop-io.invariant in
+    elim c.if-is_enabled.branch [
+      | then-is_enabled+in_ok-push w ↦ (
+        ap (λ v. v.items) w.entries-is ∙ io_pushed es i w.len-place.result (24 * w.len-place.result) d c.loop-io.entries.items w.push.new.self.items inside (sym c.is_enabled.ensures ∙ w.if-is_enabled.true) (omega arith) (omega arith) was.0 w.in_ok-push.ensures.items,
+        omega (arith, was.1, ap (λ v. length v.items) w.entries-is, w.in_ok-push.ensures.items),
+      )
+      | else-is_enabled w ↦ (
+        ap (λ v. v.items) w.entries-is ∙ io_passed es i d c.loop-io.entries.items inside (sym c.is_enabled.ensures ∙ w.if-is_enabled.false) was.0,
+        omega (arith, was.1, ap (λ v. length v.items) w.entries-is),
+      )
+    ]

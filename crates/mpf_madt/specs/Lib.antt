@@ -1,0 +1,10 @@
+pub mod Entries
+pub mod Table
+pub mod Faults
+pub mod Lawful
+pub mod Spelling
+pub mod Answers
+pub mod Own
+pub mod Lines
+pub mod Translation
+pub mod Causes

@@ -1,0 +1,113 @@
+//! The writer of a MADT: its header, its entries and its checksum (ACPI Specification, sections 5.2.6
+//! and 5.2.12).
+
+ghost use Rattle.std.specs.Prelude.{◌≡◌, ◌+◌, ◌≤◌, ◌++◌, ℕ, List, length, sum_by, OnOk, IfOk};
+ghost use Rattle.std.specs.Int.{to_le_bytes, w32};
+ghost use Rattle.std.specs.List.{AllByRecursion, flat_map};
+ghost use Rattle.mpt_base.specs.Bytes.{IsByteList};
+ghost use Rattle.mpf_madt.specs.Entries.{entry_length};
+ghost use Rattle.mpf_madt.specs.Lawful.{IsLawfulEntry, IsLawfulMadt, madt_size};
+ghost use Rattle.mpf_madt.specs.Spelling.{entry_bytes, front_bytes, back_bytes, header_bytes, madt_with, madt_bytes};
+ghost use Rattle.mpf_madt.specs.Table.{IsMadt};
+
+use crate::entry_writing::write_entry;
+use crate::judging::madt_size;
+use crate::madt::{Madt, MadtEntry};
+use crate::reading::{CHECKSUM_AT, LENGTH_AT, SIGNATURE};
+use crate::values::madt_value;
+use mpt_base::{NoMemory, append, put_bytes, put_u32, seal8};
+use std::alloc::Global;
+
+// the bytes of entries, end to end, behind what is there
+fn push_entries(out: &mut Vec<u8>, entries: &[MadtEntry]) -> Result<(), NoMemory>
+    requires lawful { AllByRecursion IsLawfulEntry entries.now }
+    ensures bytes { OnOk result (out.new.items ≡ out.old.items ++ flat_map entry_bytes entries.now) }
+    ensures size { OnOk result (length out.new.items ≡ length out.old.items + sum_by entry_length entries.now) }
+{
+    for entry in entries {
+        write_entry(out, entry)?;
+    }
+    Ok(())
+}
+
+// the ten bytes before the OEM id, with this length
+fn front_of(madt: &Madt, size: u32) -> [u8; 10]
+    ensures { result ≡ front_bytes madt.now size 0 }
+{
+    let mut bytes = [0; 10];
+    put_bytes(&mut bytes, 0, &SIGNATURE);
+    put_u32(&mut bytes, LENGTH_AT, size);
+    bytes[8] = madt.revision;
+    bytes
+}
+
+// the OEM revision
+fn word_of(number: u32) -> [u8; 4]
+    ensures { result ≡ to_le_bytes w32 number }
+{
+    let mut bytes = [0; 4];
+    put_u32(&mut bytes, 0, number);
+    bytes
+}
+
+// the twelve bytes behind the creator id
+fn back_of(madt: &Madt) -> [u8; 12]
+    ensures { result ≡ back_bytes madt.now }
+{
+    let mut bytes = [0; 12];
+    put_u32(&mut bytes, 0, madt.creator_revision);
+    put_u32(&mut bytes, 4, madt.local_address);
+    put_u32(&mut bytes, 8, madt.flags);
+    bytes
+}
+
+// appends the 44 bytes of the header with this length, its checksum still zero
+fn push_header(out: &mut Vec<u8>, madt: &Madt, size: u32) -> Result<(), NoMemory>
+    ensures bytes { OnOk result (out.new.items ≡ out.old.items ++ header_bytes madt.now size 0) }
+    ensures size { OnOk result (length out.new.items ≡ length out.old.items + 44) }
+{
+    append(out, &front_of(madt, size))?;
+    append(out, &madt.oem)?;
+    append(out, &madt.table)?;
+    append(out, &word_of(madt.oem_revision))?;
+    append(out, &madt.creator)?;
+    append(out, &back_of(madt))?;
+    Ok(())
+}
+
+// the table, its checksum still zero
+fn open_table(alloc: Global, madt: &Madt) -> Result<Vec<u8>, NoMemory>
+    requires lawful { IsLawfulMadt madt.now }
+    ensures bytes { IfOk result (λ bytes. bytes.items ≡ madt_with madt.now 0) }
+    ensures size { IfOk result (λ bytes. length bytes.items ≡ madt_size madt.now) }
+{
+    let size = madt_size(madt) as u32;
+    let mut out = Vec::new(alloc);
+    push_header(&mut out, madt, size)?;
+    push_entries(&mut out, madt.entries.as_slice())?;
+    Ok(out)
+}
+
+// the table with its checksum
+fn table_bytes(alloc: Global, madt: &Madt) -> Result<Vec<u8>, NoMemory>
+    requires lawful { IsLawfulMadt madt.now }
+    ensures bytes { IfOk result (λ bytes. bytes.items ≡ madt_bytes madt.now) }
+    ensures size { IfOk result (λ bytes. length bytes.items ≡ madt_size madt.now) }
+{
+    let mut bytes = open_table(alloc, madt)?;
+    seal8(bytes.as_mut_slice(), CHECKSUM_AT);
+    Ok(bytes)
+}
+
+/// The bytes of the table, header and entries with the length and the checksum. They are the only
+/// bytes that are this table. It fails only where memory runs out.
+pub fn write_madt(alloc: Global, madt: &Madt) -> Result<Vec<u8>, NoMemory>
+    requires lawful { IsLawfulMadt madt.now }
+    ensures table { IfOk result (λ bytes. IsMadt madt.now bytes.items) }
+    ensures size { IfOk result (λ bytes. length bytes.items ≡ madt_size madt.now) }
+    ensures only { (bytes : List ℕ) → IsByteList bytes → IsMadt madt.now bytes → IfOk result (λ written. written.items ≡ bytes) }
+{
+    madt_value(madt);
+    let bytes = table_bytes(alloc, madt)?;
+    Ok(bytes)
+}

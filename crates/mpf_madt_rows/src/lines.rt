@@ -1,0 +1,90 @@
+//! The lines of ISA interrupts, in a table and by the routes of a platform.
+
+use crate::harness::same;
+use crate::platforms::{BOARD, answers, board};
+use mpf_madt::{Line, isa, read_madt, source};
+use mpt_base::seal8;
+use std::alloc::Global;
+use std::test::Fail;
+
+fn line(gsi: u32, level: bool, low: bool) -> Line {
+    Line { gsi, level, low }
+}
+
+// the line of an interrupt in the table that the bytes are
+fn isa_in(alloc: Global, bytes: &[u8], irq: u8) -> Option<Line> {
+    if bytes.len() > 1_048_576 {
+        return None;
+    }
+    let Ok(madt) = read_madt(alloc, bytes) else {
+        return None;
+    };
+    Some(isa(&madt, irq))
+}
+
+// the line of an interrupt by the routes of the usual board
+fn board_source(alloc: Global, irq: u8) -> Option<Option<Line>> {
+    let p = board(alloc)?;
+    let answers = answers(alloc, &p, 0)?;
+    if irq < 16 {
+        Some(source(&p, answers.as_slice(), irq))
+    } else {
+        None
+    }
+}
+
+#[test]
+fn interrupts_have_their_lines(rt: HostRuntime) -> Result<(), Fail> {
+    let alloc = rt.alloc();
+    let edge = Some(line(2, false, false));
+    same(&rt, "IRQ 0", isa_in(alloc, &BOARD, 0), edge);
+    same(
+        &rt,
+        "IRQ 1",
+        isa_in(alloc, &BOARD, 1),
+        Some(line(1, false, false)),
+    );
+    let mut bytes = BOARD;
+    bytes[9] = 0xB7;
+    bytes[80] = 0x0F;
+    same(
+        &rt,
+        "level and low",
+        isa_in(alloc, &bytes, 0),
+        Some(line(2, true, true)),
+    );
+    same(&rt, "source of IRQ 0", board_source(alloc, 0), Some(edge));
+    same(&rt, "source of IRQ 2", board_source(alloc, 2), Some(None));
+    let own = Some(line(15, false, false));
+    same(&rt, "source of IRQ 15", board_source(alloc, 15), Some(own));
+    Ok(())
+}
+
+// bytes 80 and 81 of the board's table are the flags of its override: polarity 00, 01, 10, 11, and trigger
+// mode 00, 01, 10, 11 in bits 2 to 3; only 11 says low or level
+#[test]
+fn only_11_is_low_or_level(rt: HostRuntime) -> Result<(), Fail> {
+    let alloc = rt.alloc();
+    let rows = [
+        (0x0, false, false),
+        (0x1, false, false),
+        (0x2, false, false),
+        (0x3, false, true),
+        (0x4, false, false),
+        (0x7, false, true),
+        (0x8, false, false),
+        (0xB, false, true),
+        (0xC, true, false),
+        (0xD, true, false),
+        (0xE, true, false),
+        (0xF, true, true),
+    ];
+    for (flags, level, low) in rows {
+        let mut bytes = BOARD;
+        bytes[80] = flags;
+        seal8(&mut bytes, 9);
+        let want = Some(line(2, level, low));
+        same(&rt, "flags", isa_in(alloc, &bytes, 0), want);
+    }
+    Ok(())
+}

@@ -1,0 +1,10 @@
+pub mod ComparisonLemmas
+pub mod FaultLemmas
+pub mod FirstLemmas
+pub mod LayoutLemmas
+pub mod MadeLemmas
+pub mod OneLemmas
+pub mod OrderLemmas
+pub mod TableLemmas
+pub mod WiringLemmas
+pub mod WrittenLemmas

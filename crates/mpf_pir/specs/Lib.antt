@@ -1,0 +1,10 @@
+pub mod Answers
+pub mod Differences
+pub mod Faults
+pub mod Index
+pub mod Laws
+pub mod Layout
+pub mod Made
+pub mod Pins
+pub mod Progress
+pub mod Spelling

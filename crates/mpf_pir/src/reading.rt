@@ -1,0 +1,78 @@
+//! The reading of a table (PCI IRQ Routing Table Specification 1.0).
+
+ghost use Rattle.std.specs.Prelude.{◌≡◌, ◌+◌, ◌≤◌, ◌<◌, ◌*◌, ℕ, length, IfOk, IfSome, IfNone};
+ghost use Rattle.mpf_pir.specs.declared.table.Pir.{Pir as RoutingTable};
+ghost use Rattle.mpf_pir.specs.declared.table.PirReason.{PirReason};
+ghost use Rattle.mpf_pir.specs.Layout.{IsSlotAt, AreSlots, IsPir};
+ghost use Rattle.mpf_pir.specs.Faults.{IsFirstPirFault, IsFaultless};
+ghost use Rattle.mpf_pir.specs.Answers.{IfPirFault, AnswersPir, AnswersPirFault};
+
+use crate::layout::{
+    HEADER_SIZE, SIGNATURE, SIZE_AT, SLOT_SIZE, VERSION, VERSION_AT, header_layout, read_header,
+    read_pins, read_slot, slot_layout,
+};
+use crate::table::{Pir, PirReason, PirRefusal, Slot};
+use mpt_base::{part_at, read_field, sum8, u16_at};
+use mpt_spec::Sequence;
+use std::alloc::Global;
+
+// the first fault of the bytes, with its offset
+fn fault_of(bytes: &[u8]) -> Option<(u64, PirReason)>
+    ensures some { IfSome result (λ f. IsFirstPirFault bytes.now f.0 f.1) }
+    ensures none { IfNone result (IsFaultless bytes.now) }
+{
+    if bytes.len() < HEADER_SIZE {
+        return Some((0, PirReason::Short));
+    }
+    if part_at(bytes, 0, 4) != SIGNATURE.as_slice() {
+        return Some((0, PirReason::BadSignature));
+    }
+    if part_at(bytes, VERSION_AT, 2) != VERSION.as_slice() {
+        return Some((4, PirReason::BadVersion));
+    }
+    let size = u16_at(bytes, SIZE_AT);
+    if size % 16 != 0 || usize::from(size) != bytes.len() {
+        return Some((6, PirReason::BadSize));
+    }
+    if sum8(bytes) != 0 {
+        return Some((31, PirReason::BadSum));
+    }
+    None
+}
+
+fn slot_at(bytes: &[u8], at: usize) -> Slot
+    requires inside { at + 16 ≤ length bytes.now }
+    ensures { IsSlotAt result bytes.now at }
+{
+    slot_layout!(read_slot, bytes, at)
+}
+
+// the slots of a table without a fault
+fn slots_of(alloc: Global, bytes: &[u8]) -> Result<Vec<Slot>, PirRefusal>
+    requires { IsFaultless bytes.now }
+    ensures slots { IfOk result (λ slots. AreSlots slots.items bytes.now 32 (length bytes.now)) }
+    ensures memory { IfPirFault result (λ at why. ⊥) }
+{
+    let mut slots = Vec::new(alloc);
+    let mut at = HEADER_SIZE;
+    while at < bytes.len() {
+        slots.push(slot_at(bytes, at))?;
+        at += SLOT_SIZE;
+    }
+    Ok(slots)
+}
+
+/// The table that the bytes are, all of them; or the first fault, by its offset and then by its number.
+/// It takes memory for the slots alone.
+pub fn read_pir(alloc: Global, bytes: &[u8]) -> Result<Pir, PirRefusal>
+    ensures table { IfOk result (λ t. IsPir t bytes.now) }
+    ensures fault { IfPirFault result (λ at why. IsFirstPirFault bytes.now at why) }
+    ensures only_table { (t : RoutingTable) → IsPir t bytes.now → AnswersPir result t }
+    ensures only_fault { (at : ℕ) (why : PirReason) → IsFirstPirFault bytes.now at why → AnswersPirFault result at why }
+{
+    if let Some((at, why)) = fault_of(bytes) {
+        return Err(PirRefusal::Fault { at, why });
+    }
+    let slots = slots_of(alloc, bytes)?;
+    Ok(header_layout!(read_header, bytes, slots))
+}

@@ -1,0 +1,113 @@
+//! The writing of a table (PCI IRQ Routing Table Specification 1.0).
+
+ghost use Rattle.std.specs.Prelude.{◌≡◌, ◌+◌, ◌*◌, ◌^◌, ◌<◌, ◌≤◌, ◌++◌, ◌∷◌, [], ℕ, List, length, IfOk};
+ghost use Rattle.mpt_base.specs.Bytes.{IsByteList};
+ghost use Rattle.mpf_pir.specs.Layout.{IsSlotAt, AreSlots, IsPir};
+ghost use Rattle.mpf_pir.specs.Spelling.{IsHeaderValue, IsOpenPir, header_bytes};
+
+use crate::layout::{
+    CHECKSUM_AT, HEADER_SIZE, SIGNATURE, SIZE_AT, SLOT_SIZE, VERSION, VERSION_AT, header_layout,
+    put_pins, put_slot, slot_layout,
+};
+use crate::table::{Pir, Slot};
+use mpt_base::{NoMemory, append, put_bytes, put_field, put_fields, put_u16, seal8};
+use std::alloc::Global;
+
+fn slot_bytes(slot: Slot) -> [u8; 16]
+    ensures { IsSlotAt slot result 0 }
+{
+    let mut bytes = [0; 16];
+    slot_layout!(put_slot, bytes, slot);
+    bytes
+}
+
+// the slots end to end
+fn slots_bytes(alloc: Global, slots: &[Slot]) -> Result<Vec<u8>, NoMemory>
+    ensures slots { IfOk result (λ bytes. AreSlots slots.now bytes.items 0 (length bytes.items)) }
+    ensures size { IfOk result (λ bytes. length bytes.items ≡ 16 * length slots.now) }
+{
+    let mut out = Vec::new(alloc);
+    for slot in slots {
+        append(&mut out, &slot_bytes(*slot))?;
+    }
+    Ok(out)
+}
+
+// the header but for its last byte, the checksum
+fn header_bytes(pir: &Pir, size: u16) -> [u8; 31]
+    ensures { result ≡ header_bytes pir.now size }
+{
+    let mut bytes = [0; 31];
+    put_bytes(&mut bytes, 0, &SIGNATURE);
+    put_bytes(&mut bytes, VERSION_AT, &VERSION);
+    put_u16(&mut bytes, SIZE_AT, size);
+    header_layout!(put_fields, bytes, pir);
+    bytes
+}
+
+fn numbers_value(exclusive: u16, compatible: u32, miniport: u32)
+    ensures exclusive { exclusive < 2 ^ 16 }
+    ensures compatible { compatible < 2 ^ 32 }
+    ensures miniport { miniport < 2 ^ 32 }
+{
+    let _values = (exclusive, compatible, miniport);
+}
+
+fn reserved_value(reserved: [u8; 11])
+    ensures { length reserved ≡ 11 }
+{
+    let _value = reserved;
+}
+
+// that the header's fields fit
+fn header_value(pir: &Pir)
+    ensures { IsHeaderValue pir.now }
+{
+    numbers_value(pir.exclusive, pir.compatible, pir.miniport);
+    reserved_value(pir.reserved);
+}
+
+// the bytes of the table, its checksum still zero
+fn open_bytes(alloc: Global, pir: &Pir) -> Result<Vec<u8>, NoMemory>
+    requires few { length pir.now.slots ≤ 4093 }
+    ensures whole { IfOk result (λ bytes. IsOpenPir pir.now bytes.items) }
+{
+    header_value(pir);
+    let slots = pir.slots.as_slice();
+    let size = HEADER_SIZE + SLOT_SIZE * slots.len();
+    let slots = slots_bytes(alloc, slots)?;
+    let mut out = Vec::new(alloc);
+    append(&mut out, &header_bytes(pir, size as u16))?;
+    append(&mut out, &[0])?;
+    append(&mut out, slots.as_slice())?;
+    Ok(out)
+}
+
+// the bytes of the table, with its checksum
+fn sealed_bytes(alloc: Global, pir: &Pir) -> Result<Vec<u8>, NoMemory>
+    requires few { length pir.now.slots ≤ 4093 }
+    ensures { IfOk result (λ bytes. IsPir pir.now bytes.items) }
+{
+    let mut bytes = open_bytes(alloc, pir)?;
+    seal8(bytes.as_mut_slice(), CHECKSUM_AT);
+    Ok(bytes)
+}
+
+fn byte_list(bytes: &[u8])
+    ensures { IsByteList bytes.now }
+{
+    let _value = bytes;
+}
+
+/// The bytes of the table, with its size and its checksum. There are no others that are this table.
+/// It has at most 4,093 slots, so that its size fits its field. It fails only where memory runs out.
+pub fn write_pir(alloc: Global, pir: &Pir) -> Result<Vec<u8>, NoMemory>
+    requires few { length pir.now.slots ≤ 4093 }
+    ensures table { IfOk result (λ bytes. IsPir pir.now bytes.items) }
+    ensures size { IfOk result (λ bytes. length bytes.items ≡ 32 + 16 * length pir.now.slots) }
+    ensures only { (bytes : List ℕ) → IsByteList bytes → IsPir pir.now bytes → IfOk result (λ written. written.items ≡ bytes) }
+{
+    let bytes = sealed_bytes(alloc, pir)?;
+    byte_list(bytes.as_slice());
+    Ok(bytes)
+}
