@@ -1,0 +1,6 @@
+use Rattle.std.proofs.Common.{sym, ◌∙◌}
+use Rattle.mpf_pair.proofs.LineLemmas.{has-line}
+use Rattle.mpf_pair.proofs.pair.Pair.is_requested.Goals as goal
+
+pub returns : goal.returns
+returns c = rw (← c.self.view_is) (c.has_line.ensures ∙ sym (has-line c.self.inside.master.requests c.self.inside.slave.requests c.args.n c.requires))

@@ -1,0 +1,2 @@
+pub mod PinSearch
+pub mod Acknowledged
