@@ -460,13 +460,13 @@ entries 4
 
 #[test]
 fn causes_alone(rt: HostRuntime) -> Result<(), Fail> {
-    let wrong = first_wrong(rt.alloc(), BOTH, IDS)?;
+    let wrong = first_wrong(&rt, rt.alloc(), BOTH, IDS)?;
     same(&rt, "ids", wrong, None);
-    let wrong = first_wrong(rt.alloc(), BOTH, PRESENT)?;
+    let wrong = first_wrong(&rt, rt.alloc(), BOTH, PRESENT)?;
     same(&rt, "present processors", wrong, None);
-    let wrong = first_wrong(rt.alloc(), BOTH, PLACES)?;
+    let wrong = first_wrong(&rt, rt.alloc(), BOTH, PLACES)?;
     same(&rt, "places", wrong, None);
-    let wrong = first_wrong(rt.alloc(), BOTH, LIMITS)?;
+    let wrong = first_wrong(&rt, rt.alloc(), BOTH, LIMITS)?;
     same(&rt, "limits", wrong, None);
     Ok(())
 }

@@ -2,17 +2,22 @@
 
 use crate::tables::{Entry, Tables, listing_of};
 use mpt_base::{MemShelf, MemSink};
-use mptab_calls::run_still;
+use mptab_calls::{run, run_still};
 use std::alloc::Global;
 use std::fmt::Debug;
 use std::process::Abort;
+use std::sync::Wait;
 use std::test::Fail;
+use std::thread::Threads;
 
 /// The name under which an image lies on the shelf.
 pub(crate) const IMAGE: &str = "board.img";
 
 /// The name under which a script lies on the shelf.
 pub(crate) const SCRIPT: &str = "boot.toml";
+
+/// The name under which a report lies on the shelf.
+pub(crate) const REPORT: &str = "report.txt";
 
 /// Both commands.
 pub(crate) const BOTH: &[&str] = &["trace", "boot"];
@@ -56,7 +61,7 @@ impl Answer {
         let written = self.text.as_slice();
         if self.status != status {
             false
-        } else if status == 0 && !text.ends_with("\nend\n") {
+        } else if text.starts_with("mpboot 1\n") && !text.ends_with("\nend\n") {
             written.starts_with(text.as_bytes()) && written.ends_with(b"\nend\n")
         } else {
             written == text.as_bytes()
@@ -79,7 +84,8 @@ pub(crate) fn words_of(alloc: Global, words: &[&str]) -> Result<Vec<String>, Fai
 }
 
 /// The answer to these words. The put of this number fails; 0 is none.
-pub(crate) fn answer_of(
+pub(crate) fn answer_of<R: Threads + Wait + Sync>(
+    rt: &R,
     alloc: Global,
     words: &[&str],
     shelf: &mut MemShelf,
@@ -88,7 +94,7 @@ pub(crate) fn answer_of(
     let owned = words_of(alloc, words)?;
     let mut sink = MemSink::new(alloc, ROOM)?;
     sink.fail(failing)?;
-    let status = run_still(alloc, owned.as_slice(), shelf, &mut sink);
+    let status = run(rt, alloc, owned.as_slice(), shelf, &mut sink);
     let text = Vec::from_slice(alloc, sink.bytes())?;
     Ok(Answer { status, text })
 }
@@ -104,32 +110,66 @@ fn listed(alloc: Global, tables: &Tables) -> Result<MemShelf, Fail> {
 /// A shelf with this script and with the image that `build` makes of these tables.
 pub(crate) fn shelf_of(alloc: Global, tables: &Tables, script: &[u8]) -> Result<MemShelf, Fail> {
     let mut shelf = listed(alloc, tables)?;
-    let built = answer_of(alloc, &["build", "list"], &mut shelf, 0)?;
-    if built.status != 0 {
+    let words = words_of(alloc, &["build", "list"])?;
+    let mut sink = MemSink::new(alloc, ROOM)?;
+    if run_still(alloc, words.as_slice(), &mut shelf, &mut sink) != 0 {
         return Err("the tables of a row aren't built".into());
     }
     let mut shelf = MemShelf::new(alloc);
-    shelf.add(IMAGE, built.text.as_slice())?;
+    shelf.add(IMAGE, sink.bytes())?;
     shelf.add(SCRIPT, script)?;
     Ok(shelf)
 }
 
 /// The answer of a command to tables and a script, where no call fails.
-pub(crate) fn answer_to(
+pub(crate) fn answer_to<R: Threads + Wait + Sync>(
+    rt: &R,
     alloc: Global,
     command: &str,
     tables: &Tables,
     script: &[u8],
 ) -> Result<Answer, Fail> {
     let mut shelf = shelf_of(alloc, tables, script)?;
-    answer_of(alloc, &[command, IMAGE, SCRIPT], &mut shelf, 0)
+    answer_of(rt, alloc, &[command, IMAGE, SCRIPT], &mut shelf, 0)
+}
+
+/// Whether an answer of a boot to the image and the script on the shelf is a report that is judged legal.
+fn is_legal<R: Threads + Wait + Sync>(
+    rt: &R,
+    alloc: Global,
+    answer: &Answer,
+    shelf: &mut MemShelf,
+) -> Result<bool, Fail> {
+    shelf.add(REPORT, answer.text.as_slice())?;
+    let verdict = answer_of(rt, alloc, &["replay", IMAGE, SCRIPT, REPORT], shelf, 0)?;
+    Ok(answer.status == 0 && verdict.is(0, "replay legal\n"))
+}
+
+/// Whether a command answers as the row says. A boot has many reports: one with status 0 has to be legal.
+fn answers<R: Threads + Wait + Sync>(
+    rt: &R,
+    alloc: Global,
+    command: &str,
+    row: &Row,
+) -> Result<bool, Fail> {
+    let mut shelf = shelf_of(alloc, &row.tables, row.script.as_bytes())?;
+    let answer = answer_of(rt, alloc, &[command, IMAGE, SCRIPT], &mut shelf, 0)?;
+    if command == "boot" && row.status == 0 {
+        is_legal(rt, alloc, &answer, &mut shelf)
+    } else {
+        Ok(answer.is(row.status, row.text))
+    }
 }
 
 /// Whether each command answers as the row says.
-fn is_answered(alloc: Global, commands: &[&str], row: &Row) -> Result<bool, Fail> {
+fn is_answered<R: Threads + Wait + Sync>(
+    rt: &R,
+    alloc: Global,
+    commands: &[&str],
+    row: &Row,
+) -> Result<bool, Fail> {
     for command in commands {
-        let answer = answer_to(alloc, command, &row.tables, row.script.as_bytes())?;
-        if !answer.is(row.status, row.text) {
+        if !answers(rt, alloc, command, row)? {
             return Ok(false);
         }
     }
@@ -137,13 +177,14 @@ fn is_answered(alloc: Global, commands: &[&str], row: &Row) -> Result<bool, Fail
 }
 
 /// The name of the first row to which one of these commands has another answer.
-pub(crate) fn first_wrong(
+pub(crate) fn first_wrong<R: Threads + Wait + Sync>(
+    rt: &R,
     alloc: Global,
     commands: &[&str],
     rows: &[Row],
 ) -> Result<Option<&'static str>, Fail> {
     for row in rows {
-        if !is_answered(alloc, commands, row)? {
+        if !is_answered(rt, alloc, commands, row)? {
             return Ok(Some(row.name));
         }
     }

@@ -1,11 +1,9 @@
-//! The commands `trace` and `boot` through the top call: rows whose answers were worked out by hand
-//! from the formats and the rules of the board. It holds tests alone.
+//! The commands `trace` and `boot` through the top call: rows whose answers were worked out by
+//! hand from the formats and the rules of the board. It holds tests alone.
 #![tactic(auto)]
 
 #[cfg(test)]
 mod boards;
-#[cfg(test)]
-mod failing;
 #[cfg(test)]
 mod harness;
 #[cfg(test)]

@@ -125,7 +125,7 @@ cpu = [{ id = 1, words = [\"ioread 0\"] }]
 
 #[test]
 fn first_of_two_causes(rt: HostRuntime) -> Result<(), Fail> {
-    let wrong = first_wrong(rt.alloc(), BOTH, PAIRS)?;
+    let wrong = first_wrong(&rt, rt.alloc(), BOTH, PAIRS)?;
     same(&rt, "the first wrong row", wrong, None);
     Ok(())
 }

@@ -358,11 +358,11 @@ present = [1]
 
 #[test]
 fn boot_programs(rt: HostRuntime) -> Result<(), Fail> {
-    let wrong = first_wrong(rt.alloc(), BOTH, DEFAULTS)?;
+    let wrong = first_wrong(&rt, rt.alloc(), BOTH, DEFAULTS)?;
     same(&rt, "default configurations", wrong, None);
-    let wrong = first_wrong(rt.alloc(), BOTH, WRITTEN)?;
+    let wrong = first_wrong(&rt, rt.alloc(), BOTH, WRITTEN)?;
     same(&rt, "whole reports", wrong, None);
-    let wrong = first_wrong(rt.alloc(), BOTH, OF_USUAL)?;
+    let wrong = first_wrong(&rt, rt.alloc(), BOTH, OF_USUAL)?;
     same(&rt, "the usual board", wrong, None);
     Ok(())
 }

@@ -3,7 +3,9 @@
 use crate::harness::{Answer, BOTH, NOTHING, ONE, Row, answer_to, first_wrong, same, script_of};
 use crate::tables::{Entry, Tables};
 use std::alloc::Global;
+use std::sync::Wait;
 use std::test::Fail;
+use std::thread::Threads;
 
 /// Scripts that are refused, the last two before their boards.
 const REFUSED: &[Row] = &[
@@ -106,6 +108,13 @@ const REFUSED: &[Row] = &[
         text: "mptab: script key unknown\n",
     },
     Row {
+        name: "a model of logical destinations that is neither flat nor cluster",
+        tables: ONE,
+        script: "page = 1\ncpu = [{ id = 0, words = [\"dfr 7\", \"take\"] }]",
+        status: 8,
+        text: "mptab: script word cpu 00 index 0 Range\n",
+    },
+    Row {
         name: "vector 256",
         tables: ONE,
         script: "page = 1\ncpu = [{ id = 0, words = [\"take\", \"eoi\", \"ipi 0 256\"] }]",
@@ -153,7 +162,7 @@ device = [{ words = [\"take\"] }]
 
 #[test]
 fn scripts_that_are_refused(rt: HostRuntime) -> Result<(), Fail> {
-    let wrong = first_wrong(rt.alloc(), BOTH, REFUSED)?;
+    let wrong = first_wrong(&rt, rt.alloc(), BOTH, REFUSED)?;
     same(&rt, "the first wrong row", wrong, None);
     Ok(())
 }
@@ -172,15 +181,20 @@ const SIZES: &[(usize, usize, u8, &str)] = &[
 ];
 
 /// The answer to one processor with so many words, where the script is filled up to so many bytes.
-fn answer_to_size(alloc: Global, words: usize, bytes: usize) -> Result<Answer, Fail> {
+fn answer_to_size<R: Threads + Wait + Sync>(
+    rt: &R,
+    alloc: Global,
+    words: usize,
+    bytes: usize,
+) -> Result<Answer, Fail> {
     let script = script_of(alloc, "\"eoi\",", words, bytes)?;
-    answer_to(alloc, "trace", &ONE, script.as_slice())
+    answer_to(rt, alloc, "trace", &ONE, script.as_slice())
 }
 
 #[test]
 fn sizes_of_scripts(rt: HostRuntime) -> Result<(), Fail> {
     for (words, bytes, status, text) in SIZES {
-        let answer = answer_to_size(rt.alloc(), *words, *bytes)?;
+        let answer = answer_to_size(&rt, rt.alloc(), *words, *bytes)?;
         assert!(rt; answer.is(*status, text), "{words} words, {bytes} bytes");
     }
     Ok(())

@@ -1,7 +1,7 @@
 //! Whole reports that were worked out by hand: processors that start or don't, an edge pin that three devices
-//! pulse, a level pin that is sent again.
+//! pulse, a level pin that is sent again, messages to logical destinations and of lowest priority.
 
-use crate::harness::{BOTH, Row, first_wrong, same};
+use crate::harness::{BOTH, Row, answer_to, first_wrong, same};
 use crate::tables::{Entry, Tables};
 use std::test::Fail;
 
@@ -20,6 +20,12 @@ const LEVEL_PIN: Tables = Tables::Listed(
 ioint kind 00 flags 0000 bus 00 irq 00 dest 01 pin 10
 ",
 );
+
+/// Three devices that pulse that pin once each, and a processor that takes one interrupt and ends it.
+const THREE_PULSES_SCRIPT: &str = "page = 0x9F
+cpu = [{ id = 0, words = [\"take\", \"eoi\"] }]
+device = [{ words = [\"pulse 0 1\"] }, { words = [\"pulse 0 1\"] }, { words = [\"pulse 0 1\"] }]
+";
 
 /// What three devices make of one pin, taken and ended.
 const THREE_PULSES: &str = "mpboot 1
@@ -48,7 +54,7 @@ state io 0 line 000000 due 000000 remote 000000
 end
 ";
 
-/// Rows that each command answers with the same report.
+/// Rows that each command answers with the same report, since one agent alone steps.
 const BY_BOTH: &[Row] = &[
     Row {
         name: "two processors: the second is started",
@@ -99,20 +105,17 @@ state cpu 01 started.9F tpr 00 irr - isr - tmr -
 end
 ",
     },
-    Row {
-        name: "three devices pulse one pin, which is sent once",
-        tables: ONE_PIN,
-        script: "page = 0x9F
-cpu = [{ id = 0, words = [\"take\", \"eoi\"] }]
-device = [{ words = [\"pulse 0 1\"] }, { words = [\"pulse 0 1\"] }, { words = [\"pulse 0 1\"] }]
-",
-        status: 0,
-        text: THREE_PULSES,
-    },
 ];
 
 /// Rows whose report is that of the round robin.
 const BY_TURNS: &[Row] = &[
+    Row {
+        name: "three devices pulse one pin, which is sent once",
+        tables: ONE_PIN,
+        script: THREE_PULSES_SCRIPT,
+        status: 0,
+        text: THREE_PULSES,
+    },
     Row {
         name: "the processor waits at a take without a vector",
         tables: ONE_PIN,
@@ -216,13 +219,145 @@ state io 0 line 000000 due 000000 remote 000000
 end
 ",
     },
+    Row {
+        name: "a message to a logical destination in the flat model: its own bit, and another",
+        tables: Tables::Listed(&[Entry::Boot(0), Entry::Cpu(1)], ""),
+        script: "page = 0x9F
+cpu = [{ id = 0, words = [\"ldr 1\", \"ipl 1 0x40\", \"ipl 2 0x40\", \"take\"] }]
+",
+        status: 0,
+        text: "mpboot 1
+entries 11
+0 cpu 00 init 01 : 01=waiting
+1 cpu 00 pause 10000 : done
+2 cpu 00 startup 01 9F : 01=started.9F
+3 cpu 00 pause 200 : done
+4 cpu 00 startup 01 9F : 01=ignored
+5 cpu 00 pause 200 : done
+6 cpu 00 check 01 : 01=runs.9F
+7 cpu 00 ldr 01 : done
+8 cpu 00 ipl 01 40 : 00=set
+9 cpu 00 ipl 02 40 : 02=absent
+10 cpu 00 take : taken.40
+state imcr none
+state cpu 00 first tpr 00 irr - isr 40 tmr -
+state cpu 01 started.9F tpr 00 irr - isr - tmr -
+end
+",
+    },
+    Row {
+        name: "lowest priority goes to the processor of the least priority",
+        tables: Tables::Listed(&[Entry::Boot(0), Entry::Cpu(1), Entry::Io(2)], ""),
+        script: "page = 0x9F
+cpu = [{ id = 0, words = [\"tpr 32\", \"iosel 0 19\", \"iowin 0 0x0F000000\", \"iosel 0 18\", \"iowin 0 0x8121\"] }]
+device = [{ words = [\"high 0 1\"] }]
+",
+        status: 0,
+        text: "mpboot 1
+entries 17
+0 cpu 00 init 01 : 01=waiting
+1 cpu 00 pause 10000 : done
+2 cpu 00 startup 01 9F : 01=started.9F
+3 cpu 00 pause 200 : done
+4 cpu 00 startup 01 9F : 01=ignored
+5 cpu 00 pause 200 : done
+6 cpu 00 check 01 : 01=runs.9F
+7 dev 0 begin : done
+8 cpu 00 tpr 20 : done
+9 dev 0 high 0 1 : plain
+10 cpu 00 iosel 0 13 : done
+11 dev 0 end : done
+12 cpu 00 iowin 0 0F000000 : plain
+13 io 0 sweep : done
+14 cpu 00 iosel 0 12 : done
+15 cpu 00 iowin 0 00008121 : due
+16 io 0 send 1 : 01=set
+log 0 : none
+state imcr none
+state cpu 00 first tpr 20 irr - isr - tmr -
+state cpu 01 started.9F tpr 00 irr 21 isr - tmr 21
+state io 0 line 000002 due 000000 remote 000002
+end
+",
+    },
+    Row {
+        name: "lowest priority goes to the least id where the priorities are the same",
+        tables: Tables::Listed(&[Entry::Boot(0), Entry::Cpu(1), Entry::Io(2)], ""),
+        script: "page = 0x9F
+cpu = [{ id = 0, words = [\"iosel 0 19\", \"iowin 0 0x0F000000\", \"iosel 0 18\", \"iowin 0 0x8121\"] }]
+device = [{ words = [\"high 0 1\"] }]
+",
+        status: 0,
+        text: "mpboot 1
+entries 16
+0 cpu 00 init 01 : 01=waiting
+1 cpu 00 pause 10000 : done
+2 cpu 00 startup 01 9F : 01=started.9F
+3 cpu 00 pause 200 : done
+4 cpu 00 startup 01 9F : 01=ignored
+5 cpu 00 pause 200 : done
+6 cpu 00 check 01 : 01=runs.9F
+7 dev 0 begin : done
+8 cpu 00 iosel 0 13 : done
+9 dev 0 high 0 1 : plain
+10 cpu 00 iowin 0 0F000000 : plain
+11 dev 0 end : done
+12 cpu 00 iosel 0 12 : done
+13 io 0 sweep : done
+14 cpu 00 iowin 0 00008121 : due
+15 io 0 send 1 : 00=set
+log 0 : none
+state imcr none
+state cpu 00 first tpr 00 irr 21 isr - tmr 21
+state cpu 01 started.9F tpr 00 irr - isr - tmr -
+state io 0 line 000002 due 000000 remote 000002
+end
+",
+    },
+    Row {
+        name: "a message to two processors of a cluster",
+        tables: Tables::Listed(&[Entry::Boot(0), Entry::Cpu(1)], ""),
+        script: "page = 0x9F
+cpu = [{ id = 0, words = [\"dfr 0\", \"ldr 0x11\", \"ipl 0x13 0x40\", \"ipl 0x23 0x40\"] }, { id = 1, words = [\"dfr 0\", \"ldr 0x12\"] }]
+",
+        status: 0,
+        text: "mpboot 1
+entries 13
+0 cpu 00 init 01 : 01=waiting
+1 cpu 00 pause 10000 : done
+2 cpu 00 startup 01 9F : 01=started.9F
+3 cpu 01 dfr 00 : done
+4 cpu 00 pause 200 : done
+5 cpu 01 ldr 12 : done
+6 cpu 00 startup 01 9F : 01=ignored
+7 cpu 00 pause 200 : done
+8 cpu 00 check 01 : 01=runs.9F
+9 cpu 00 dfr 00 : done
+10 cpu 00 ldr 11 : done
+11 cpu 00 ipl 13 40 : 00=set 01=set
+12 cpu 00 ipl 23 40 : 23=absent
+state imcr none
+state cpu 00 first tpr 00 irr 40 isr - tmr -
+state cpu 01 started.9F tpr 00 irr 40 isr - tmr -
+end
+",
+    },
 ];
 
 #[test]
 fn reports(rt: HostRuntime) -> Result<(), Fail> {
-    let wrong = first_wrong(rt.alloc(), BOTH, BY_BOTH)?;
+    let wrong = first_wrong(&rt, rt.alloc(), BOTH, BY_BOTH)?;
     same(&rt, "reports of both commands", wrong, None);
-    let wrong = first_wrong(rt.alloc(), &["trace"], BY_TURNS)?;
+    let wrong = first_wrong(&rt, rt.alloc(), &["trace"], BY_TURNS)?;
     same(&rt, "reports of the round robin", wrong, None);
+    Ok(())
+}
+
+#[test]
+fn boots_of_one_agent(rt: HostRuntime) -> Result<(), Fail> {
+    for row in BY_BOTH {
+        let answer = answer_to(&rt, rt.alloc(), "boot", &row.tables, row.script.as_bytes())?;
+        same(&rt, row.name, answer.is(row.status, row.text), true);
+    }
     Ok(())
 }

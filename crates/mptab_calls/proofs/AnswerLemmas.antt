@@ -1,6 +1,7 @@
 -- What the walk meets at a file is what is due to the form.
 use Rattle.std.proofs.Common.{◌≡◌, ℕ, ◌+◌, ◌≤◌, ◌<◌, ◌^◌, List, [], ◌∷◌, length, map, get_or, Option, Some, None, IfSome, IsSomeAnd, Result, Ok, Err, IfOk, IfErr, refl, sym, ap, subst, ◌∙◌, inl, inr, arith}
 use Rattle.std.specs.Prelude.{option_map}
+use Rattle.std.proofs.lemmas.List.{length-map}
 use Rattle.mpt_base.specs.Outside.{Files, IsSizeTold}
 use Rattle.mpt_spec.specs.declared.tables.Tables.{Tables}
 use Rattle.mpt_spec.specs.Table.{Describes}
@@ -9,6 +10,8 @@ use Rattle.mpt_spec.specs.Faults.{IsFirstFault}
 use Rattle.mpt_spec.specs.Canonical.{IsWellFormed, FitsInImage, block_size}
 use Rattle.mpt_parse.specs.declared.fault.LineWhy.{LineWhy}
 use Rattle.mpt_parse.specs.Listings.{IsListing, IsListingOf, IsFirstBadLine}
+use Rattle.mpb_report_line.specs.declared.report.Report.{Report as AReport}
+use Rattle.mpb_report_parse.specs.Reports.{IsReport, IsReportOf}
 use Rattle.mpt_rules.specs.declared.rule.Finding.{Finding}
 use Rattle.mpt_table.proofs.ToldLemmas.{IfTold-map}
 use Rattle.mpt_base.specs.declared.fault.Reason.{Reason}
@@ -18,8 +21,12 @@ use Rattle.mptab_calls.specs.declared.ending.Ending.TheVariants.{Absent, TooLarg
 use Rattle.std.specs.List.{AllByRecursion}
 use Rattle.mptab_calls.specs.declared.words.Source.{Source}
 use Rattle.mptab_calls.specs.declared.words.Source.TheVariants as source
-use Rattle.mptab_calls.specs.Forms.{Form, Show, Audit, Canon, Build, Route, Trace, Boot, Named, Image, Listing, Script, source_of, files_of, name_of, limit_of, named_of, IsRead}
-use Rattle.mptab_calls.specs.Commands.{status_of, GivesTables, IsUnderstood, IsRefused, IsAnswerTo, IsAnswerBy, IsReadyFor, no_pointer_line, fault_line, bad_line_line, unfit_line}
+use Rattle.mptab_calls.specs.declared.words.StillCommand.{StillCommand}
+use Rattle.mptab_calls.specs.declared.words.StillCommand.TheVariants as still
+use Rattle.mptab_calls.specs.declared.words.TablesCommand.{TablesCommand}
+use Rattle.mptab_calls.specs.declared.words.TablesCommand.TheVariants as form
+use Rattle.mptab_calls.specs.Forms.{Form, Show, Audit, Canon, Raise, Madt, Pirmake, Build, Route, Trace, Boot, Drill, Replay, Madtcmp, Pircmp, Pic, IsForm, IsInRange, form_of_still, Named, Image, Listing, Script, Report, AcpiTable, RoutingTable, Calls, files_of, form_of_tables, file_of_tables, name_of, limit_of, named_of, IsRead}
+use Rattle.mptab_calls.specs.Commands.{status_of, ImageGives, ListingGives, GivesTables, IsUnderstood, IsRefused, IsText, IsAnswerTo, IsReadyFor, IsDrillDue, no_pointer_line, fault_line, bad_line_line, unfit_line, ReportGives, bad_report_line}
 use Rattle.mptab_calls.specs.Walk.{Outside, IsDueOf, AsksOf, Reaches, IsFirstRead, most_of}
 use Rattle.mptab_calls.specs.Ending.{ending_status, ending_text, IsEnding, Shelves, shelves}
 use Rattle.mptab_calls.specs.declared.answer.Answer.{Answer}
@@ -33,6 +40,10 @@ refused_not_absent told (Listing name) status text (inl h) three = omega (arith,
 refused_not_absent told (Listing name) status text (inr h) three = omega (arith, three, h.0)
 refused_not_absent told (Script image name) status text (inl h) three = omega (arith, three, h.0)
 refused_not_absent told (Script image name) status text (inr h) three = omega (arith, three, h.0)
+refused_not_absent told (Report name) status text h three = omega (arith, three, h.0)
+refused_not_absent told (AcpiTable name) status text h three = omega (arith, three, h.0)
+refused_not_absent told (RoutingTable name) status text h three = omega (arith, three, h.0)
+refused_not_absent told (Calls name) status text h three = omega (arith, three, h.0)
 
 -- where the walk ends at a file that it comes to, that is due; where memory is wanting the first file is to be there
 pub ending_at : (told : Option Files) (before after : Outside) (form : Form) (file : Named) (e : Ending) → Reaches told (files_of form) file → (IsRead told file (λ bytes. Unit {0}) → IsFirstRead told (files_of form))
@@ -43,16 +54,27 @@ ending_at told before after form file NoMemory reaches first h = inr (inr (refl,
 ending_at told before after form file (TooLarge size) reaches first h = inl (inl (file, reaches, inr (inl (refl, size, h.0, refl))), λ three. absurd (omega (arith, three)), h.1)
 ending_at told before after form file (Refused answer) reaches first h = inl (inl (file, reaches, inr (inr h.0)), λ three. absurd (refused_not_absent told file answer.status answer.text.items h.0 three), h.1)
 
--- at the file that gives the form its tables
-ending_due : (told : Option Files) (before after : Outside) (form : Form) (e : Ending) → IsEnding told (shelves before.misses after.misses before.faults after.faults) (source_of form) e
-    → IsDueOf told before after form (ending_status e) (ending_text (name_of (source_of form)) e)
-ending_due told before after form e h = ending_at told before after form (source_of form) e (inl refl) (λ there. there) h
+-- a form over tables has one file
+files_are : (c : TablesCommand) → files_of (form_of_tables c) ≡ file_of_tables c ∷ []
+files_are (form.Show image) = refl
+files_are (form.Audit image) = refl
+files_are (form.Canon image) = refl
+files_are (form.Raise image) = refl
+files_are (form.Madt image elcr) = refl
+files_are (form.Pirmake image) = refl
+files_are (form.Build listing) = refl
+files_are (form.Route image elcr) = refl
 
-pub IsEnding-due : (told : Option Files) (before after : Outside) (form : Form) (file : Named) (name : List ℕ) (e : Ending) → file ≡ source_of form → name ≡ name_of file → IsEnding told (shelves before.misses after.misses before.faults after.faults) file e
-    → IsDueOf told before after form (ending_status e) (ending_text name e)
-IsEnding-due told before after form file name e is named h =
-    subst (λ (n : List ℕ). IsDueOf told before after form (ending_status e) (ending_text n e)) (ap name_of (sym is) ∙ sym named)
-    (ending_due told before after form e (subst (λ (f : Named). IsEnding told (shelves before.misses after.misses before.faults after.faults) f e) is h))
+one_file : (c : TablesCommand) (file : Named) → file ≡ file_of_tables c → files_of (form_of_tables c) ≡ file ∷ []
+one_file c file is = files_are c ∙ ap (λ (f : Named). f ∷ []) (sym is)
+
+-- where the walk ends at that file, that is due
+pub IsEnding-due : (told : Option Files) (before after : Outside) (c : TablesCommand) (file : Named) (name : List ℕ) (e : Ending) → file ≡ file_of_tables c → name ≡ name_of file → IsEnding told (shelves before.misses after.misses before.faults after.faults) file e
+    → IsDueOf told before after (form_of_tables c) (ending_status e) (ending_text name e)
+IsEnding-due told before after c file name e is named h =
+    let files = one_file c file is in
+    subst (λ (n : List ℕ). IsDueOf told before after (form_of_tables c) (ending_status e) (ending_text n e)) (sym named)
+    (ending_at told before after (form_of_tables c) file e (subst (λ (fs : List Named). Reaches told fs file) (sym files) (inl refl)) (λ there. subst (λ (fs : List Named). IsFirstRead told fs) (sym files) there) h)
 
 -- a file of which something is read is there
 pub read_there : (files : Files) (file : Named) (P : List ℕ → Type 0) → IsRead (Some files) file P → IsRead (Some files) file (λ bytes. Unit {0})
@@ -63,76 +85,82 @@ read_there files file P h = held (files (name_of file)) h
     held (Some bytes) h = (h.0, tt)
 
 -- a file that gives tables is there
-source_there : (told : Option Files) (source : Source) (tables : Tables) → GivesTables told (named_of source) tables → IsRead told (named_of source) (λ bytes. Unit {0})
-source_there None source tables gives = tt
+source_there : (told : Option Files) (s : Source) (tables : Tables) → GivesTables told s tables → IsRead told (named_of s) (λ bytes. Unit {0})
+source_there None s tables gives = tt
 source_there (Some files) (source.Image name) tables gives = read_there files (Image name.now) (λ image. Describes image tables) gives
 source_there (Some files) (source.Listing name) tables gives = read_there files (Listing name.now) (IsListingOf tables) gives.1
 
 -- where memory is wanting behind it, that is due
-pub IsEnding-given : (told : Option Files) (before after : Outside) (source : Source) (tables : Tables) → GivesTables told (named_of source) tables → after.faults ≡ before.faults → IsEnding told (shelves before.misses after.misses before.faults after.faults) (named_of source) NoMemory
-IsEnding-given told before after source tables gives kept = (source_there told source tables gives, kept)
+pub IsEnding-given : (told : Option Files) (before after : Outside) (s : Source) (tables : Tables) → GivesTables told s tables → after.faults ≡ before.faults → IsEnding told (shelves before.misses after.misses before.faults after.faults) (named_of s) NoMemory
+IsEnding-given told before after s tables gives kept = (source_there told s tables gives, kept)
+
+-- and it is understood
+source_understood : (told : Option Files) (s : Source) (tables : Tables) → GivesTables told s tables → IsUnderstood told (named_of s)
+source_understood told (source.Image name) tables gives = (tables, gives)
+source_understood told (source.Listing name) tables gives = (tables, gives)
 
 -- no answer to tables has the status of an absent file
-not_absent : (form : Form) (tables : Tables) (status : ℕ) (text : List ℕ) → IsAnswerTo form tables status text → status ≡ 3 → ⊥
-not_absent (Show image) tables status text h three = omega (arith, three, h.0)
-not_absent (Audit image) tables status text (findings, are, is, t) three = by_findings findings is
+not_absent : (c : TablesCommand) (tables : Tables) (status : ℕ) (text : List ℕ) → IsAnswerTo c tables status text → status ≡ 3 → ⊥
+not_absent (form.Show image) tables status text h three = omega (arith, three, h.0)
+not_absent (form.Audit image) tables status text (findings, are, is, t) three = by_findings findings is
   where
     by_findings : (fs : List Finding) → status ≡ status_of fs → ⊥
     by_findings [] e = omega (arith, three, e)
     by_findings (f ∷ fs) e = omega (arith, three, e)
-not_absent (Canon image) tables status text (inl h) three = omega (arith, three, h.0)
-not_absent (Canon image) tables status text (inr h) three = omega (arith, three, h.0)
-not_absent (Build listing) tables status text h three = omega (arith, three, h.0)
-not_absent (Route image elcr) tables status text h three = omega (arith, three, h.0)
-not_absent (Trace image script) tables status text h three = absurd h
-not_absent (Boot image script) tables status text h three = absurd h
+not_absent (form.Canon image) tables status text (inl h) three = omega (arith, three, h.0)
+not_absent (form.Canon image) tables status text (inr h) three = omega (arith, three, h.0)
+not_absent (form.Raise image) tables status text (inl h) three = omega (arith, three, h.0)
+not_absent (form.Raise image) tables status text (inr h) three = omega (arith, three, h.0)
+not_absent (form.Madt image elcr) tables status text (inl h) three = omega (arith, three, h.0)
+not_absent (form.Madt image elcr) tables status text (inr h) three = omega (arith, three, h.0)
+not_absent (form.Pirmake image) tables status text (inl h) three = omega (arith, three, h.0)
+not_absent (form.Pirmake image) tables status text (inr h) three = omega (arith, three, h.0)
+not_absent (form.Build listing) tables status text h three = omega (arith, three, h.0)
+not_absent (form.Route image elcr) tables status text h three = omega (arith, three, h.0)
 
--- tables that a file gives are what the form needs beside well formed
-ready_given : (told : Option Files) (form : Form) (tables : Tables) → GivesTables told (source_of form) tables → IsReadyFor form tables
-ready_given told (Show image) tables gives = tt
-ready_given told (Audit image) tables gives = tt
-ready_given told (Canon image) tables gives = tt
-ready_given told (Build listing) tables gives = gives.0
-ready_given told (Route image elcr) tables gives = tt
-ready_given told (Trace image script) tables gives = tt
-ready_given told (Boot image script) tables gives = tt
+-- tables that a form's file gives are what the form needs beside well formed
+pub IsReadyFor-given : (told : Option Files) (c : TablesCommand) (s : Source) (tables : Tables) → named_of s ≡ file_of_tables c → GivesTables told s tables → IsReadyFor c tables
+IsReadyFor-given told (form.Show image) s tables is gives = tt
+IsReadyFor-given told (form.Audit image) s tables is gives = tt
+IsReadyFor-given told (form.Canon image) s tables is gives = tt
+IsReadyFor-given told (form.Raise image) s tables is gives = tt
+IsReadyFor-given told (form.Madt image elcr) s tables is gives = tt
+IsReadyFor-given told (form.Pirmake image) s tables is gives = tt
+IsReadyFor-given told (form.Build listing) (source.Image name) tables is gives = absurd cc
+IsReadyFor-given told (form.Build listing) (source.Listing name) tables is gives = gives.0
+IsReadyFor-given told (form.Route image elcr) s tables is gives = tt
 
-pub IsReadyFor-given : (told : Option Files) (form : Form) (file : Named) (tables : Tables) → file ≡ source_of form → GivesTables told file tables → IsReadyFor form tables
-IsReadyFor-given told form file tables is gives = ready_given told form tables (subst (λ (f : Named). GivesTables told f tables) is gives)
+-- and their answer is the form's text
+text_given : (told : Option Files) (c : TablesCommand) (s : Source) (tables : Tables) (status : ℕ) (text : List ℕ) → named_of s ≡ file_of_tables c → GivesTables told s tables → IsWellFormed tables → tables.at < 2 ^ 32
+    → IsAnswerTo c tables status text → IsText told (form_of_tables c) status text
+text_given told (form.Show image) (source.Image name) tables status text is gives w low h = let same : name.now ≡ image.now = cc in (tables, w, low, subst (λ n. ImageGives told n tables) same gives, h)
+text_given told (form.Show image) (source.Listing name) tables status text is gives w low h = absurd cc
+text_given told (form.Audit image) (source.Image name) tables status text is gives w low h = let same : name.now ≡ image.now = cc in (tables, w, low, subst (λ n. ImageGives told n tables) same gives, h)
+text_given told (form.Audit image) (source.Listing name) tables status text is gives w low h = absurd cc
+text_given told (form.Canon image) (source.Image name) tables status text is gives w low h = let same : name.now ≡ image.now = cc in (tables, w, low, subst (λ n. ImageGives told n tables) same gives, h)
+text_given told (form.Canon image) (source.Listing name) tables status text is gives w low h = absurd cc
+text_given told (form.Raise image) (source.Image name) tables status text is gives w low h = let same : name.now ≡ image.now = cc in (tables, w, low, subst (λ n. ImageGives told n tables) same gives, h)
+text_given told (form.Raise image) (source.Listing name) tables status text is gives w low h = absurd cc
+text_given told (form.Madt image elcr) (source.Image name) tables status text is gives w low h = let same : name.now ≡ image.now = cc in (tables, w, low, subst (λ n. ImageGives told n tables) same gives, h)
+text_given told (form.Madt image elcr) (source.Listing name) tables status text is gives w low h = absurd cc
+text_given told (form.Pirmake image) (source.Image name) tables status text is gives w low h = let same : name.now ≡ image.now = cc in (tables, w, low, subst (λ n. ImageGives told n tables) same gives, h)
+text_given told (form.Pirmake image) (source.Listing name) tables status text is gives w low h = absurd cc
+text_given told (form.Build listing) (source.Image name) tables status text is gives w low h = absurd cc
+text_given told (form.Build listing) (source.Listing name) tables status text is gives w low h = let same : name.now ≡ listing.now = cc in (tables, w, low, subst (λ n. ListingGives told n tables) same gives, h)
+text_given told (form.Route image elcr) (source.Image name) tables status text is gives w low h = let same : name.now ≡ image.now = cc in (tables, w, low, subst (λ n. ImageGives told n tables) same gives, h)
+text_given told (form.Route image elcr) (source.Listing name) tables status text is gives w low h = absurd cc
 
--- a form over tables alone has no further file, and its answer is that of its tables
-own_answer : (told : Option Files) (form : Form) (tables : Tables) (status : ℕ) (text : List ℕ) → IsAnswerTo form tables status text → (files_of form ≡ source_of form ∷ []) × IsAnswerBy told form tables status text
-own_answer told (Show image) tables status text h = (refl, h)
-own_answer told (Audit image) tables status text h = (refl, h)
-own_answer told (Canon image) tables status text h = (refl, h)
-own_answer told (Build listing) tables status text h = (refl, h)
-own_answer told (Route image elcr) tables status text h = (refl, h)
-own_answer told (Trace image script) tables status text h = absurd h
-own_answer told (Boot image script) tables status text h = absurd h
+-- so it is due
+pub IsAnswerTo-due : (told : Option Files) (before after : Outside) (c : TablesCommand) (s : Source) (tables : Tables) (status : ℕ) (text : List ℕ) → named_of s ≡ file_of_tables c → GivesTables told s tables → IsWellFormed tables → tables.at < 2 ^ 32 → after.faults ≡ before.faults
+    → IsAnswerTo c tables status text → IsDueOf told before after (form_of_tables c) status text
+IsAnswerTo-due told before after c s tables status text is gives low_form low kept answer =
+    let understood : AllByRecursion (IsUnderstood told) (files_of (form_of_tables c)) = subst (λ (fs : List Named). AllByRecursion (IsUnderstood told) fs) (sym (one_file c (named_of s) is)) (source_understood told s tables gives, tt) in
+    inl (inr (understood, text_given told c s tables status text is gives low_form low answer), λ three. absurd (not_absent c tables status text answer three), kept)
 
--- a file that gives a form its tables is understood
-source_understood : (told : Option Files) (form : Form) (tables : Tables) → GivesTables told (source_of form) tables → IsUnderstood told (source_of form)
-source_understood told (Show image) tables gives = (tables, gives)
-source_understood told (Audit image) tables gives = (tables, gives)
-source_understood told (Canon image) tables gives = (tables, gives)
-source_understood told (Build listing) tables gives = (tables, gives)
-source_understood told (Route image elcr) tables gives = (tables, gives)
-source_understood told (Trace image script) tables gives = (tables, gives)
-source_understood told (Boot image script) tables gives = (tables, gives)
-
--- what its tables give the form is due
-pub IsAnswerTo-due : (told : Option Files) (before after : Outside) (form : Form) (file : Named) (tables : Tables) (status : ℕ) (text : List ℕ) → file ≡ source_of form → GivesTables told file tables → IsWellFormed tables → tables.at < 2 ^ 32 → after.faults ≡ before.faults
-    → IsAnswerTo form tables status text → IsDueOf told before after form status text
-IsAnswerTo-due told before after form file tables status text is gives low_form low kept answer =
-    let own : GivesTables told (source_of form) tables = subst (λ (f : Named). GivesTables told f tables) is gives in
-    let h = own_answer told form tables status text answer in
-    let understood : AllByRecursion (IsUnderstood told) (files_of form) = subst (λ (fs : List Named). AllByRecursion (IsUnderstood told) fs) (sym h.0) (source_understood told form tables own, tt) in
-    inl (inr (understood, (tables, low_form, low, own, h.1)), λ three. absurd (not_absent form tables status text answer three), kept)
-
--- the file that gives the form its tables is all that is asked for
-pub AsksOf-source : (told : Option Files) (form : Form) (file : Named) (before after : ℕ) → file ≡ source_of form → after ≤ before + most_of told file → (n : ℕ) × (after ≤ before + n) × AsksOf told (files_of form) n
-AsksOf-source told form file before after is asks =
-    (most_of told (source_of form), subst (λ (f : Named). after ≤ before + most_of told f) is asks, inl (omega arith))
+-- that file is all that is asked for
+pub AsksOf-source : (told : Option Files) (c : TablesCommand) (file : Named) (before after : ℕ) → file ≡ file_of_tables c → after ≤ before + most_of told file → (n : ℕ) × (after ≤ before + n) × AsksOf told (files_of (form_of_tables c)) n
+AsksOf-source told c file before after is asks =
+    (most_of told file, asks, subst (λ (fs : List Named). AsksOf told fs (most_of told file)) (sym (one_file c file is)) (inl (omega arith)))
 
 -- ---- an image
 
@@ -178,8 +206,8 @@ IsRead-bytes told file size bytes P is within same p =
     IsRead-told told file size P is within (IfTold-map told (name_of file) (λ held. held ≡ bytes) P (λ held e. subst P (sym e) p) same)
 
 -- the tables of a listing that was read
-pub GivesTables-listing : (told : Option Files) (name : List ℕ) (size : ℕ) (bytes : List ℕ) (tables : Tables) → IsSizeTold told name (Some size) → size ≤ limit_of (Listing name) → IfTold told name (λ held. held ≡ bytes) → FitsInImage tables → IsListingOf tables bytes → GivesTables told (Listing name) tables
-GivesTables-listing told name size bytes tables is within same fit lists = (fit, IsRead-bytes told (Listing name) size bytes (IsListingOf tables) is within same lists)
+pub ListingGives-read : (told : Option Files) (name : List ℕ) (size : ℕ) (bytes : List ℕ) (tables : Tables) → IsSizeTold told name (Some size) → size ≤ limit_of (Listing name) → IfTold told name (λ held. held ≡ bytes) → FitsInImage tables → IsListingOf tables bytes → ListingGives told name tables
+ListingGives-read told name size bytes tables is within same fit lists = (fit, IsRead-bytes told (Listing name) size bytes (IsListingOf tables) is within same lists)
 
 -- a listing is refused for the reason that its reader gives
 pub IsRefused-line : (told : Option Files) (name : List ℕ) (size n : ℕ) (bytes : List ℕ) (why : LineWhy) → IsSizeTold told name (Some size) → size ≤ limit_of (Listing name) → IfTold told name (λ held. held ≡ bytes) → IsFirstBadLine IsListing bytes n why → IsRefused told (Listing name) 8 (bad_line_line n why)
@@ -189,6 +217,33 @@ pub IsRefused-unfit : (told : Option Files) (name : List ℕ) (size n : ℕ) (by
     → (tables : Tables) × IsListingOf tables bytes × (¬ FitsInImage tables) × (n ≡ block_size tables.body) → IsRefused told (Listing name) 8 (unfit_line n)
 IsRefused-unfit told name size n bytes is within same (tables, lists, not, sum) =
     inr (refl, tables, IsRead-bytes told (Listing name) size bytes (IsListingOf tables) is within same lists, not, ap unfit_line sum)
+
+-- ---- a report
+
+-- what a report says that was read
+pub ReportGives-read : (told : Option Files) (name : List ℕ) (size : ℕ) (bytes : List ℕ) (r : AReport) → IsSizeTold told name (Some size) → size ≤ limit_of (Report name) → IfTold told name (λ held. held ≡ bytes) → IsReportOf r bytes → ReportGives told name r
+ReportGives-read told name size bytes r is within same reads = IsRead-bytes told (Report name) size bytes (λ text. IsReportOf r text) is within same reads
+
+-- a report is refused for its first bad line
+pub IsRefused-report : (told : Option Files) (name : List ℕ) (size n : ℕ) (bytes : List ℕ) (why : LineWhy) → IsSizeTold told name (Some size) → size ≤ limit_of (Report name) → IfTold told name (λ held. held ≡ bytes) → IsFirstBadLine IsReport bytes n why → IsRefused told (Report name) 8 (bad_report_line n why)
+IsRefused-report told name size n bytes why is within same bad = (refl, n, why, IsRead-bytes told (Report name) size bytes (λ report. IsFirstBadLine IsReport report n why) is within same bad, refl)
+
+-- ---- a drill
+
+-- what a drill comes to is due
+pub IsDrillDue-due : (told : Option Files) (before after : Outside) (n status : ℕ) (text : List ℕ) → after.faults ≡ before.faults → IsDrillDue n status text → IsDueOf told before after (Drill n) status text
+IsDrillDue-due told before after n status text kept (inl h) = inl (inr (tt, h), (λ three. absurd (omega (arith, three, h.0))), kept)
+IsDrillDue-due told before after n status text kept (inr h) = inr (inr (h.0, kept, tt, h.1))
+
+-- its number is in range
+pub IsInRange-form : (c : StillCommand) (words : List (List ℕ)) → IsForm (form_of_still c) words → IsInRange c
+IsInRange-form (still.OfTables c) words is = tt
+IsInRange-form (still.Trace files) words is = tt
+IsInRange-form (still.Drill n) words is = is.0
+IsInRange-form (still.Replay files) words is = tt
+IsInRange-form (still.Madtcmp files) words is = tt
+IsInRange-form (still.Pircmp files) words is = tt
+IsInRange-form (still.Pic files) words is = tt
 
 -- ---- words
 
@@ -208,3 +263,37 @@ three_words bytes (x ∷ []) first second third low high f s t = absurd (omega a
 three_words bytes (x ∷ y ∷ []) first second third low high f s t = absurd (omega arith)
 three_words bytes (x ∷ y ∷ z ∷ []) first second third low high f s t = rw (← f, ← s, ← t) refl
 three_words bytes (x ∷ y ∷ z ∷ w ∷ ws) first second third low high f s t = absurd (omega arith)
+
+-- four members
+pub four_words : {X : Type 0} (bytes : X → List ℕ) (words : List X) (first second third fourth : X) → 4 ≤ length words → length words < 5 → first ≡ get_or words 0 first → second ≡ get_or words 1 second → third ≡ get_or words 2 third → fourth ≡ get_or words 3 fourth
+    → map bytes words ≡ bytes first ∷ bytes second ∷ bytes third ∷ bytes fourth ∷ []
+four_words bytes [] first second third fourth low high f s t r = absurd (omega arith)
+four_words bytes (x ∷ []) first second third fourth low high f s t r = absurd (omega arith)
+four_words bytes (x ∷ y ∷ []) first second third fourth low high f s t r = absurd (omega arith)
+four_words bytes (x ∷ y ∷ z ∷ []) first second third fourth low high f s t r = absurd (omega arith)
+four_words bytes (x ∷ y ∷ z ∷ w ∷ []) first second third fourth low high f s t r = rw (← f, ← s, ← t, ← r) refl
+four_words bytes (x ∷ y ∷ z ∷ w ∷ v ∷ vs) first second third fourth low high f s t r = absurd (omega arith)
+
+-- a form has two words, three or four
+few_words : (form : Form) (words : List (List ℕ)) → IsForm form words → (2 ≤ length words) × (length words < 5)
+few_words (Show i) words e = let n = ap length e in (omega (arith, n), omega (arith, n))
+few_words (Audit i) words e = let n = ap length e in (omega (arith, n), omega (arith, n))
+few_words (Canon i) words e = let n = ap length e in (omega (arith, n), omega (arith, n))
+few_words (Raise i) words e = let n = ap length e in (omega (arith, n), omega (arith, n))
+few_words (Madt i n) words e = let k = ap length e.1 in (omega (arith, k), omega (arith, k))
+few_words (Pirmake i) words e = let n = ap length e in (omega (arith, n), omega (arith, n))
+few_words (Build i) words e = let n = ap length e in (omega (arith, n), omega (arith, n))
+few_words (Route i n) words e = let k = ap length e.1 in (omega (arith, k), omega (arith, k))
+few_words (Trace i j) words e = let n = ap length e in (omega (arith, n), omega (arith, n))
+few_words (Boot i j) words e = let n = ap length e in (omega (arith, n), omega (arith, n))
+few_words (Drill n) words e = let k = ap length e.1 in (omega (arith, k), omega (arith, k))
+few_words (Replay i j k) words e = let n = ap length e in (omega (arith, n), omega (arith, n))
+few_words (Madtcmp i n m) words e = let k = ap length e.1 in (omega (arith, k), omega (arith, k))
+few_words (Pircmp i j) words e = let n = ap length e in (omega (arith, n), omega (arith, n))
+few_words (Pic i j k) words e = let n = ap length e in (omega (arith, n), omega (arith, n))
+
+pub no_words : {X : Type 0} (bytes : X → List ℕ) (words : List X) → length words < 2 → (form : Form) → IsForm form (map bytes words) → ⊥
+no_words bytes words low form is = let few = few_words form (map bytes words) is in let n = few.0 in omega (arith, n, low, length-map words bytes)
+
+pub many_words : {X : Type 0} (bytes : X → List ℕ) (words : List X) → 5 ≤ length words → (form : Form) → IsForm form (map bytes words) → ⊥
+many_words bytes words high form is = let few = few_words form (map bytes words) is in let n = few.1 in omega (arith, n, high, length-map words bytes)

@@ -1,9 +1,14 @@
 -- What follows from an answer that was given: each status's cause, that it comes whole, and that no failure is hidden.
 use Rattle.std.proofs.Common.{◌≡◌, ℕ, List, Option, sym, subst, ◌∙◌, inl, inr}
 use Rattle.mpt_base.specs.Outside.{Files}
-use Rattle.mptab_calls.specs.Forms.{Form, IsForm, IsStill, IsAny}
+use Rattle.mptab_calls.specs.Forms.{Form, Boot, IsForm, IsStill, IsAny, form_of_still, form_of_tables}
+use Rattle.mptab_calls.specs.declared.words.StillCommand.{StillCommand}
+use Rattle.mptab_calls.specs.declared.words.StillCommand.TheVariants as still
+use Rattle.mptab_calls.specs.declared.words.TablesCommand.{TablesCommand}
+use Rattle.mptab_calls.specs.declared.words.TablesCommand.TheVariants as tables
 use Rattle.mptab_calls.specs.Commands.{IsRefused, IsText}
-use Rattle.mptab_calls.specs.Walk.{Outside, IsDueOf, Answers, IsComplete, TellsFailures, AsksAtMost, IsNoForm}
+use Rattle.mptab_calls.specs.Walk.{Outside, IsDueOf, Answers, IsComplete, TellsFailures, IsNoForm}
+use Rattle.mptab_calls.proofs.FormReading.{same_form}
 use Rattle.mptab_calls.specs.Causes.{Cause, Done, Usage, NoFile, CannotRead, CannotWrite, Refused, NoMemory, TooLarge}
 
 -- what is due to a form, in its row
@@ -37,30 +42,31 @@ Answers-failures listed told before after words result (s, t, inr (form, l, is, 
 Answers-failures listed told before after words result (s, t, inr (form, l, is, inr (inl x)), inl d) = record { reads = inl (d.0 ∙ x.0); writes = inr d.1 }
 Answers-failures listed told before after words result (s, t, inr (form, l, is, inr (inr x)), inl d) = record { reads = inr (inr x.1); writes = inr d.1 }
 
--- ---- each form needs no threads
+-- ---- forms that need no threads
 
-every_form_still : (form : Form) → IsStill form
-every_form_still form = tt
+pub still_form : (c : StillCommand) → IsStill (form_of_still c)
+still_form (still.OfTables c) = of_tables c
+  where
+    of_tables : (d : TablesCommand) → IsStill (form_of_tables d)
+    of_tables (tables.Show image) = tt
+    of_tables (tables.Audit image) = tt
+    of_tables (tables.Canon image) = tt
+    of_tables (tables.Raise image) = tt
+    of_tables (tables.Madt image elcr) = tt
+    of_tables (tables.Pirmake image) = tt
+    of_tables (tables.Build listing) = tt
+    of_tables (tables.Route image elcr) = tt
+still_form (still.Trace files) = tt
+still_form (still.Drill n) = tt
+still_form (still.Replay files) = tt
+still_form (still.Madtcmp files) = tt
+still_form (still.Pircmp files) = tt
+still_form (still.Pic files) = tt
 
-no_form-still : (words : List (List ℕ)) → IsNoForm IsAny words → IsNoForm IsStill words
+-- words that are no form are none that needs no threads
+pub no_form-still : (words : List (List ℕ)) → IsNoForm IsAny words → IsNoForm IsStill words
 no_form-still words none form listed is = none form tt is
 
--- what stands for each form stands for those that need no threads
-pub Answers-still : (told : Option Files) (before after : Outside) (words : List (List ℕ)) (result : ℕ) → Answers IsAny told before after words result → Answers IsStill told before after words result
-Answers-still told before after words result (s, t, inl u, d) = (s, t, inl ((no_form-still words u.0.0, u.0.1, u.0.2), u.1), d)
-Answers-still told before after words result (s, t, inr l, d) = (s, t, inr (l.0, every_form_still l.0, l.2, l.3), d)
-
-pub AsksAtMost-still : (told : Option Files) (before after : Outside) (words : List (List ℕ)) → AsksAtMost IsAny told before after words → AsksAtMost IsStill told before after words
-AsksAtMost-still told before after words (inl a) = inl (no_form-still words a.0, a.1)
-AsksAtMost-still told before after words (inr l) = inr (l.0, every_form_still l.0, l.2, l.3)
-
-no_form-any : (words : List (List ℕ)) → IsNoForm IsStill words → IsNoForm IsAny words
-no_form-any words none form listed is = none form (every_form_still form) is
-
-pub Answers-any : (told : Option Files) (before after : Outside) (words : List (List ℕ)) (result : ℕ) → Answers IsStill told before after words result → Answers IsAny told before after words result
-Answers-any told before after words result (s, t, inl u, d) = (s, t, inl ((no_form-any words u.0.0, u.0.1, u.0.2), u.1), d)
-Answers-any told before after words result (s, t, inr l, d) = (s, t, inr (l.0, tt, l.2, l.3), d)
-
-pub AsksAtMost-any : (told : Option Files) (before after : Outside) (words : List (List ℕ)) → AsksAtMost IsStill told before after words → AsksAtMost IsAny told before after words
-AsksAtMost-any told before after words (inl a) = inl (no_form-any words a.0, a.1)
-AsksAtMost-any told before after words (inr l) = inr (l.0, tt, l.2, l.3)
+-- the words of a boot are none
+pub boot-alone : (image script : List ℕ) (words : List (List ℕ)) → IsForm (Boot image script) words → IsNoForm IsStill words
+boot-alone image script words boot form listed is = subst IsStill (same_form form (Boot image script) words is boot) listed

@@ -3,3 +3,7 @@ pub mod AnswerLemmas
 pub mod CauseLemmas
 pub mod FileLemmas
 pub mod BoardLemmas
+pub mod FormReading
+pub mod SecondLemmas
+pub mod LimitedLemmas
+pub mod RouteLemmas

@@ -4,4 +4,6 @@ pub mod Commands
 pub mod Walk
 pub mod Causes
 pub mod Ending
+pub mod Limited
 pub mod File
+pub mod Boards

@@ -1,20 +1,62 @@
 //! The top calls.
 
-ghost use Rattle.mptab_calls.specs.Forms.{IsStill, IsAny};
-ghost use Rattle.mptab_calls.specs.Walk.{texts_of, outside, Answers, IsComplete, TellsFailures, AsksAtMost};
+ghost use Rattle.std.specs.Prelude.{MatchOption};
+ghost use Rattle.mptab_calls.specs.Forms.{IsStill, IsAny, IsForm, form_of_still};
+ghost use Rattle.mptab_calls.specs.Walk.{texts_of, outside, Answers, IsComplete, TellsFailures, AsksAtMost, IsNoForm};
 ghost use Rattle.mptab_calls.specs.Causes.{Cause};
 
+use crate::boot::give_of_boot;
 use crate::delivery::deliver_line;
 use crate::giving::give;
 use crate::status::USAGE;
-use crate::words::command_of;
+use crate::words::{Command, StillCommand, command_of};
+use mpb_boot::{Gate, NoGate};
 use mpt_base::{Shelf, Sink};
 use std::alloc::Global;
 use std::sync::Wait;
 use std::thread::Threads;
 
-// the walk over words and files
-fn walk<S: Shelf, O: Sink>(alloc: Global, words: &[String], shelf: &mut S, out: &mut O) -> u8
+// the form that needs no threads, if the words are one
+fn still_of(words: &[String]) -> Option<StillCommand>
+    ensures { MatchOption result (IsNoForm IsStill (texts_of words.now))
+        (λ command. IsForm (form_of_still command) (texts_of words.now)) }
+{
+    match command_of(words) {
+        Some(Command::Still(command)) => Some(command),
+        Some(Command::Boot(files)) => {
+            let _ = files;
+            None
+        }
+        None => None,
+    }
+}
+
+// the walk over words and files of the forms that need no threads
+fn walk_still<S: Shelf, O: Sink>(alloc: Global, words: &[String], shelf: &mut S, out: &mut O) -> u8
+    ensures answer { Answers IsStill (S.files shelf.old)
+        (outside (S.misses shelf.old) (S.faults shelf.old) (S.asked shelf.old) (O.faults out.old) (O.written out.old))
+        (outside (S.misses shelf.new) (S.faults shelf.new) (S.asked shelf.new) (O.faults out.new) (O.written out.new))
+        (texts_of words.now) result }
+    ensures asks { AsksAtMost IsStill (S.files shelf.old)
+        (outside (S.misses shelf.old) (S.faults shelf.old) (S.asked shelf.old) (O.faults out.old) (O.written out.old))
+        (outside (S.misses shelf.new) (S.faults shelf.new) (S.asked shelf.new) (O.faults out.new) (O.written out.new))
+        (texts_of words.now) }
+{
+    match still_of(words) {
+        Some(command) => give(alloc, command, shelf, out),
+        None => deliver_line(out, USAGE, &[b"mptab: usage"]),
+    }
+}
+
+// the walk over words and files of each form
+fn walk<R: Threads + Wait + Sync, S: Shelf, O: Sink, G: Gate + Sync>(
+    rt: &R,
+    alloc: Global,
+    words: &[String],
+    shelf: &mut S,
+    out: &mut O,
+    gate: &G,
+) -> u8
     ensures answer { Answers IsAny (S.files shelf.old)
         (outside (S.misses shelf.old) (S.faults shelf.old) (S.asked shelf.old) (O.faults out.old) (O.written out.old))
         (outside (S.misses shelf.new) (S.faults shelf.new) (S.asked shelf.new) (O.faults out.new) (O.written out.new))
@@ -25,12 +67,14 @@ fn walk<S: Shelf, O: Sink>(alloc: Global, words: &[String], shelf: &mut S, out: 
         (texts_of words.now) }
 {
     match command_of(words) {
-        Some(command) => give(alloc, command, shelf, out),
+        Some(Command::Still(command)) => give(alloc, command, shelf, out),
+        Some(Command::Boot(files)) => give_of_boot(rt, alloc, files, shelf, out, gate),
         None => deliver_line(out, USAGE, &[b"mptab: usage"]),
     }
 }
 
-/// Does what the words say, and answers the status (docs/FORMATS.md). It never waits, and returns.
+/// Does what the words say, and answers the status (docs/FORMATS.md). It never waits, and returns. The words of
+/// a boot, which needs threads, are no listed form here.
 ///
 /// The files are taken from the shelf in the order of the words: each is asked for its size, and one
 /// past its limit isn't read. The whole text is made before it goes to the sink, in pieces of at most
@@ -71,7 +115,50 @@ pub fn run_still<S: Shelf, O: Sink>(
         (outside (S.misses shelf.new) (S.faults shelf.new) (S.asked shelf.new) (O.faults out.new) (O.written out.new))
         (texts_of words.now) }
 {
-    walk(alloc, words, shelf, out)
+    walk_still(alloc, words, shelf, out)
+}
+
+/// The top call with a gate: does what the words say, and answers the status. Of a boot each agent's thread
+/// passes the gate before each of its turns. It may wait for threads.
+pub fn run_with<R: Threads + Wait + Sync, S: Shelf, O: Sink, G: Gate + Sync>(
+    rt: &R,
+    alloc: Global,
+    words: &[String],
+    shelf: &mut S,
+    out: &mut O,
+    gate: &G,
+) -> u8
+    // Status and text are an answer of words and files; or a read failed, or memory ran out; or, with
+    // status 5, a write failed.
+    ensures answer { Answers IsAny (S.files shelf.old)
+        (outside (S.misses shelf.old) (S.faults shelf.old) (S.asked shelf.old) (O.faults out.old) (O.written out.old))
+        (outside (S.misses shelf.new) (S.faults shelf.new) (S.asked shelf.new) (O.faults out.new) (O.written out.new))
+        (texts_of words.now) result }
+
+    // Each status has its cause.
+    ensures cause { Cause IsAny (S.files shelf.old)
+        (outside (S.misses shelf.old) (S.faults shelf.old) (S.asked shelf.old) (O.faults out.old) (O.written out.old))
+        (outside (S.misses shelf.new) (S.faults shelf.new) (S.asked shelf.new) (O.faults out.new) (O.written out.new))
+        (texts_of words.now) result }
+
+    // Where no call fails, an answer comes whole, unless memory runs out.
+    ensures complete { IsComplete IsAny (S.files shelf.old)
+        (outside (S.misses shelf.old) (S.faults shelf.old) (S.asked shelf.old) (O.faults out.old) (O.written out.old))
+        (outside (S.misses shelf.new) (S.faults shelf.new) (S.asked shelf.new) (O.faults out.new) (O.written out.new))
+        (texts_of words.now) result }
+
+    // No failure is kept from the caller.
+    ensures failures { TellsFailures
+        (outside (S.misses shelf.old) (S.faults shelf.old) (S.asked shelf.old) (O.faults out.old) (O.written out.old))
+        (outside (S.misses shelf.new) (S.faults shelf.new) (S.asked shelf.new) (O.faults out.new) (O.written out.new)) result }
+
+    // No more is asked for than the files that the walk comes to let.
+    ensures asks { AsksAtMost IsAny (S.files shelf.old)
+        (outside (S.misses shelf.old) (S.faults shelf.old) (S.asked shelf.old) (O.faults out.old) (O.written out.old))
+        (outside (S.misses shelf.new) (S.faults shelf.new) (S.asked shelf.new) (O.faults out.new) (O.written out.new))
+        (texts_of words.now) }
+{
+    walk(rt, alloc, words, shelf, out, gate)
 }
 
 /// The top call: does what the words say, and answers the status. It may wait for threads.
@@ -112,6 +199,5 @@ pub fn run<R: Threads + Wait + Sync, S: Shelf, O: Sink>(
         (outside (S.misses shelf.new) (S.faults shelf.new) (S.asked shelf.new) (O.faults out.new) (O.written out.new))
         (texts_of words.now) }
 {
-    let _ = rt;
-    run_still(alloc, words, shelf, out)
+    run_with(rt, alloc, words, shelf, out, &NoGate)
 }

@@ -1,41 +1,46 @@
 //! What a form gives: the walk over its files, and the delivery of the answer.
 
-ghost use Rattle.std.specs.Prelude.{◌≡◌, ◌≤◌, ◌<◌, ◌+◌, ◌^◌, ℕ, List};
-ghost use Rattle.mpt_spec.specs.Canonical.{IsWellFormed};
-ghost use Rattle.mptab_calls.specs.Forms.{Image, Script, files_of, form_of, form_of_tables, form_of_board};
-ghost use Rattle.mptab_calls.specs.Commands.{GivesTables};
-ghost use Rattle.mptab_calls.specs.Walk.{IsDueOf, IsDelivered, AsksOf, most_of, outside};
+ghost use Rattle.std.specs.Prelude.{◌≤◌, ◌+◌, ℕ, List};
+ghost use Rattle.mptab_calls.specs.Forms.{IsInRange, files_of, form_of_still, form_of_tables};
+ghost use Rattle.mptab_calls.specs.Walk.{IsDueOf, IsDelivered, AsksOf, outside};
 
 use crate::answer::answer_to;
 use crate::delivery::deliver_text;
+use crate::drill::give_of_drill;
 use crate::ending::{Ending, refuse};
-use crate::image::take_image;
-use crate::report::report;
-use crate::script::take_script;
+use crate::madtcmp::give_of_madtcmp;
+use crate::pic::give_of_pic;
+use crate::pircmp::give_of_pircmp;
+use crate::replay::give_of_replay;
 use crate::source::take;
-use crate::status::DONE;
-use crate::words::{BoardCommand, Command, TablesCommand, name_in, source_named};
+use crate::trace::give_of_trace;
+use crate::words::{StillCommand, TablesCommand, name_in, source_named};
 use mpt_base::{NoMemory, Shelf, Sink};
-use mpt_table::Tables;
 use std::alloc::Global;
 
-/// Does what the form says, and answers the status.
+/// Does what a form that needs no threads says, and answers the status.
 pub(crate) fn give<S: Shelf, O: Sink>(
     alloc: Global,
-    command: Command,
+    command: StillCommand,
     shelf: &mut S,
     out: &mut O,
 ) -> u8
+    requires { IsInRange command }
     ensures due { (status : ℕ) × (text : List ℕ)
         × IsDueOf (S.files shelf.old) (outside (S.misses shelf.old) (S.faults shelf.old) (S.asked shelf.old) (O.faults out.old) (O.written out.old))
-        (outside (S.misses shelf.new) (S.faults shelf.new) (S.asked shelf.new) (O.faults out.new) (O.written out.new)) (form_of command.entry) status text
+        (outside (S.misses shelf.new) (S.faults shelf.new) (S.asked shelf.new) (O.faults out.new) (O.written out.new)) (form_of_still command.entry) status text
         × IsDelivered (outside (S.misses shelf.old) (S.faults shelf.old) (S.asked shelf.old) (O.faults out.old) (O.written out.old))
         (outside (S.misses shelf.new) (S.faults shelf.new) (S.asked shelf.new) (O.faults out.new) (O.written out.new)) result status text }
-    ensures asks { (n : ℕ) × (S.asked shelf.new ≤ S.asked shelf.old + n) × AsksOf (S.files shelf.old) (files_of (form_of command.entry)) n }
+    ensures asks { (n : ℕ) × (S.asked shelf.new ≤ S.asked shelf.old + n) × AsksOf (S.files shelf.old) (files_of (form_of_still command.entry)) n }
 {
     match command {
-        Command::OfTables(command) => give_of_tables(alloc, command, shelf, out),
-        Command::OfBoard(command) => give_of_board(alloc, command, shelf, out),
+        StillCommand::OfTables(command) => give_of_tables(alloc, command, shelf, out),
+        StillCommand::Trace(files) => give_of_trace(alloc, files, shelf, out),
+        StillCommand::Drill(n) => give_of_drill(alloc, n, out),
+        StillCommand::Replay(files) => give_of_replay(alloc, files, shelf, out),
+        StillCommand::Madtcmp(files) => give_of_madtcmp(alloc, files, shelf, out),
+        StillCommand::Pircmp(files) => give_of_pircmp(alloc, files, shelf, out),
+        StillCommand::Pic(files) => give_of_pic(alloc, files, shelf, out),
     }
 }
 
@@ -60,52 +65,5 @@ fn give_of_tables<S: Shelf, O: Sink>(
             Err(NoMemory) => refuse(name_in(source), Ending::NoMemory, out),
         },
         Err(ending) => refuse(name_in(source), ending, out),
-    }
-}
-
-// the same of a form over a board: the image first
-fn give_of_board<S: Shelf, O: Sink>(
-    alloc: Global,
-    command: BoardCommand,
-    shelf: &mut S,
-    out: &mut O,
-) -> u8
-    ensures due { (status : ℕ) × (text : List ℕ)
-        × IsDueOf (S.files shelf.old) (outside (S.misses shelf.old) (S.faults shelf.old) (S.asked shelf.old) (O.faults out.old) (O.written out.old))
-        (outside (S.misses shelf.new) (S.faults shelf.new) (S.asked shelf.new) (O.faults out.new) (O.written out.new)) (form_of_board command.entry) status text
-        × IsDelivered (outside (S.misses shelf.old) (S.faults shelf.old) (S.asked shelf.old) (O.faults out.old) (O.written out.old))
-        (outside (S.misses shelf.new) (S.faults shelf.new) (S.asked shelf.new) (O.faults out.new) (O.written out.new)) result status text }
-    ensures asks { (n : ℕ) × (S.asked shelf.new ≤ S.asked shelf.old + n) × AsksOf (S.files shelf.old) (files_of (form_of_board command.entry)) n }
-{
-    match take_image(alloc, command.image, shelf) {
-        Ok(tables) => give_of_tables_and_script(alloc, command, &tables, shelf, out),
-        Err(ending) => refuse(command.image, ending, out),
-    }
-}
-
-// then the script
-fn give_of_tables_and_script<S: Shelf, O: Sink>(
-    alloc: Global,
-    command: BoardCommand,
-    tables: &Tables,
-    shelf: &mut S,
-    out: &mut O,
-) -> u8
-    requires tables { GivesTables (S.files shelf.old) (Image command.image.now) tables.now }
-    requires well_formed { IsWellFormed tables.now }
-    requires low { tables.now.at < 2 ^ 32 }
-    ensures due { (status : ℕ) × (text : List ℕ)
-        × IsDueOf (S.files shelf.old) (outside (S.misses shelf.old) (S.faults shelf.old) (S.asked shelf.old) (O.faults out.old) (O.written out.old))
-        (outside (S.misses shelf.new) (S.faults shelf.new) (S.asked shelf.new) (O.faults out.new) (O.written out.new)) (form_of_board command.entry) status text
-        × IsDelivered (outside (S.misses shelf.old) (S.faults shelf.old) (S.asked shelf.old) (O.faults out.old) (O.written out.old))
-        (outside (S.misses shelf.new) (S.faults shelf.new) (S.asked shelf.new) (O.faults out.new) (O.written out.new)) result status text }
-    ensures asks { S.asked shelf.new ≤ S.asked shelf.old + most_of (S.files shelf.old) (Script command.entry.image.now command.entry.script.now) }
-{
-    match take_script(alloc, command, tables, shelf) {
-        Ok(config) => match report(alloc, command.way, config) {
-            Ok(text) => deliver_text(out, DONE, text.as_slice()),
-            Err(NoMemory) => refuse(command.script, Ending::NoMemory, out),
-        },
-        Err(ending) => refuse(command.script, ending, out),
     }
 }

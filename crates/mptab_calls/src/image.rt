@@ -4,7 +4,7 @@ ghost use Rattle.std.specs.Prelude.{◌≡◌, ◌≤◌, ◌<◌, ◌+◌, ◌^
 ghost use Rattle.mpt_base.specs.Outside.{IsSizeTold};
 ghost use Rattle.mpt_spec.specs.Canonical.{IsWellFormed};
 ghost use Rattle.mptab_calls.specs.Forms.{Image, limit_of, most_asked};
-ghost use Rattle.mptab_calls.specs.Commands.{GivesTables};
+ghost use Rattle.mptab_calls.specs.Commands.{ImageGives};
 ghost use Rattle.mptab_calls.specs.Walk.{most_of};
 ghost use Rattle.mptab_calls.specs.Ending.{IsEnding, shelves};
 
@@ -26,7 +26,7 @@ pub(crate) fn take_image<S: Shelf>(
     ensures files_stay { S.files shelf.new ≡ S.files shelf.old }
     ensures misses { S.misses shelf.old ≤ S.misses shelf.new }
     ensures unfailed { IfOk result (λ t. S.faults shelf.new ≡ S.faults shelf.old) }
-    ensures tables { IfOk result (λ t. GivesTables (S.files shelf.old) (Image name.now) t) }
+    ensures tables { IfOk result (λ t. ImageGives (S.files shelf.old) name.now t) }
     ensures well_formed { IfOk result IsWellFormed }
     ensures low { IfOk result (λ t. t.at < 2 ^ 32) }
     ensures ends { IfErr result (IsEnding (S.files shelf.old)
@@ -54,7 +54,7 @@ fn image_of_size<S: Shelf>(
     ensures files_stay { S.files shelf.new ≡ S.files shelf.old }
     ensures misses { S.misses shelf.old ≤ S.misses shelf.new }
     ensures unfailed { IfOk result (λ t. S.faults shelf.new ≡ S.faults shelf.old) }
-    ensures tables { IfOk result (λ t. GivesTables (S.files shelf.old) (Image name.now) t) }
+    ensures tables { IfOk result (λ t. ImageGives (S.files shelf.old) name.now t) }
     ensures well_formed { IfOk result IsWellFormed }
     ensures low { IfOk result (λ t. t.at < 2 ^ 32) }
     ensures ends { IfErr result (IsEnding (S.files shelf.old)

@@ -1,17 +1,24 @@
 //! The lines of files that are read and refused.
 
-ghost use Rattle.std.specs.Prelude.{◌≡◌, map, IfOk};
+ghost use Rattle.std.specs.Prelude.{◌≡◌, ◌≢◌, map, IfOk};
 ghost use Rattle.mpt_base.specs.Reason.{reason_number};
 ghost use Rattle.mpt_listing.specs.Listing.{line};
 ghost use Rattle.mpt_listing.specs.Part.{part_text};
 ghost use Rattle.mpb_boot.specs.Lines.{script_fault_line, board_fault_line, IsScriptFault, IsBoardFault};
-ghost use Rattle.mptab_calls.specs.Commands.{no_pointer_line, reason_name, fault_line, line_why_name, bad_line_line, unfit_line};
+ghost use Rattle.mpf_pir.specs.declared.making.MakeFault.TheVariants as make;
+ghost use Rattle.mpf_answers.specs.FaultLines.{madt_fault_line, many_processors_line, pir_fault_line, make_fault_line};
+ghost use Rattle.mptab_calls.specs.Commands.{no_pointer_line, reason_name, fault_line, line_why_name, bad_line_line, bad_report_line, bad_calls_line, unfit_line};
 
 use crate::answer::Answer;
-use crate::status::{NO_BOARD, NO_POINTER, NOT_LISTED, REFUSED};
+use crate::status::{
+    NO_BOARD, NO_CALLS, NO_MADT, NO_POINTER, NO_ROUTING_TABLE, NOT_LISTED, REFUSED,
+};
 use mpb_boot::{board_fault_line, script_fault_line};
 use mpb_script::ScriptFault;
 use mpb_spec::BoardError;
+use mpf_answers::{madt_fault_line, make_fault_line, many_processors_line, pir_fault_line};
+use mpf_madt::MadtReason;
+use mpf_pir::{MakeFault, PirReason};
 use mpt_base::{Fault, NoMemory, Reason};
 use mpt_listing::{Part, push_line};
 use mpt_parse::LineWhy;
@@ -73,6 +80,22 @@ pub(crate) fn bad_line(alloc: Global, number: u32, why: LineWhy) -> Result<Answe
     )
 }
 
+/// The report has this first bad line.
+pub(crate) fn bad_report(alloc: Global, line: u32, why: LineWhy) -> Result<Answer, NoMemory>
+    ensures { IfOk result (λ a. (a.status ≡ 8) × (a.text.items ≡ bad_report_line line why)) }
+{
+    line_answer(
+        alloc,
+        NOT_LISTED,
+        &[
+            Part::Text(b"mptab: report line "),
+            Part::Decimal(u64::from(line)),
+            Part::Text(b" "),
+            Part::Text(line_why_name(why)),
+        ],
+    )
+}
+
 /// The tables, whose block has this many bytes, have no place in an image of 1 MiB.
 pub(crate) fn unfit(alloc: Global, size: u64) -> Result<Answer, NoMemory>
     ensures { IfOk result (λ a. (a.status ≡ 8) × (a.text.items ≡ unfit_line size)) }
@@ -102,6 +125,65 @@ pub(crate) fn bad_board(alloc: Global, error: BoardError) -> Result<Answer, NoMe
     let text = board_fault_line(alloc, error)?;
     Ok(Answer {
         status: NO_BOARD,
+        text,
+    })
+}
+
+/// The MADT has this first fault.
+pub(crate) fn bad_madt(alloc: Global, at: u64, why: MadtReason) -> Result<Answer, NoMemory>
+    ensures { IfOk result (λ a. (a.status ≡ 13) × (a.text.items ≡ madt_fault_line at why)) }
+{
+    let text = madt_fault_line(alloc, at, why)?;
+    Ok(Answer {
+        status: NO_MADT,
+        text,
+    })
+}
+
+/// There are this many processors, too many for a MADT.
+pub(crate) fn many_processors(alloc: Global, n: u32) -> Result<Answer, NoMemory>
+    ensures { IfOk result (λ a. (a.status ≡ 13) × (a.text.items ≡ many_processors_line n)) }
+{
+    let text = many_processors_line(alloc, n)?;
+    Ok(Answer {
+        status: NO_MADT,
+        text,
+    })
+}
+
+/// The text of calls has this first bad line.
+pub(crate) fn bad_calls(alloc: Global, line: u32) -> Result<Answer, NoMemory>
+    ensures { IfOk result (λ a. (a.status ≡ 14) × (a.text.items ≡ bad_calls_line line)) }
+{
+    line_answer(
+        alloc,
+        NO_CALLS,
+        &[
+            Part::Text(b"mptab: pic line "),
+            Part::Decimal(u64::from(line)),
+            Part::Text(b" Form"),
+        ],
+    )
+}
+
+/// The PCI IRQ routing table has this first fault.
+pub(crate) fn bad_pir(alloc: Global, at: u64, why: PirReason) -> Result<Answer, NoMemory>
+    ensures { IfOk result (λ a. (a.status ≡ 15) × (a.text.items ≡ pir_fault_line at why)) }
+{
+    let text = pir_fault_line(alloc, at, why)?;
+    Ok(Answer {
+        status: NO_ROUTING_TABLE,
+        text,
+    })
+}
+
+/// There is no PCI IRQ routing table of the platform, for this reason.
+pub(crate) fn unmade_pir(alloc: Global, fault: MakeFault) -> Result<Answer, NoMemory>
+    ensures { IfOk result (λ a. (a.status ≡ 15) × (a.text.items ≡ make_fault_line fault) × (fault ≢ make.NoMemory)) }
+{
+    let text = make_fault_line(alloc, fault)?;
+    Ok(Answer {
+        status: NO_ROUTING_TABLE,
         text,
     })
 }

@@ -1,22 +1,71 @@
-//! What a board gives each form: the report of its boot.
+//! The step of the walk that takes a report: its size, its limit, its bytes, what it says.
 
-ghost use Rattle.std.specs.Prelude.{◌≡◌, ◌<◌, ◌^◌, IfOk};
-ghost use Rattle.mpb_spec.specs.Plan.{plan_size};
-ghost use Rattle.mptab_calls.specs.Commands.{IsReportBy};
+ghost use Rattle.std.specs.Prelude.{◌≡◌, ◌≤◌, ◌<◌, ◌+◌, ◌^◌, length, Some, IfOk, IfErr};
+ghost use Rattle.mpt_base.specs.Outside.{IsSizeTold};
+ghost use Rattle.mptab_calls.specs.Forms.{Report as AReport, limit_of, most_asked};
+ghost use Rattle.mptab_calls.specs.Commands.{ReportGives};
+ghost use Rattle.mptab_calls.specs.Walk.{most_of};
+ghost use Rattle.mptab_calls.specs.Ending.{IsEnding, shelves};
 
-use crate::words::Way;
-use mpb_boot::{boot_in_turns, trace};
-use mpb_spec::Config;
-use mpt_base::NoMemory;
+use crate::ending::{Ending, refused};
+use crate::file::{FileFailure, read_whole};
+use crate::refusals::bad_report;
+use mpb_report_parse::{Report, ReportFault, parse_report};
+use mpt_base::{Failed, Shelf};
 use std::alloc::Global;
 
-/// The report of the board of this config, by the way to it.
-pub(crate) fn report(alloc: Global, way: Way, config: Config) -> Result<Vec<u8>, NoMemory>
-    requires small { plan_size config < 2 ^ 32 }
-    ensures { IfOk result (λ text. IsReportBy way config text.items) }
+/// The most bytes of a report: 256 MiB.
+const REPORT_LIMIT: u64 = 268_435_456;
+
+/// What the report of this name says, or why the walk ends there.
+pub(crate) fn take_report<S: Shelf>(
+    alloc: Global,
+    name: &str,
+    shelf: &mut S,
+) -> Result<Report, Ending>
+    ensures files_stay { S.files shelf.new ≡ S.files shelf.old }
+    ensures unfailed { IfOk result (λ r. S.faults shelf.new ≡ S.faults shelf.old) }
+    ensures report { IfOk result (λ r. ReportGives (S.files shelf.old) name.now r) }
+    ensures few { IfOk result (λ r. length r.entries < 2 ^ 32) }
+    ensures ends { IfErr result (IsEnding (S.files shelf.old)
+        (shelves (S.misses shelf.old) (S.misses shelf.new) (S.faults shelf.old) (S.faults shelf.new))
+        (AReport name.now)) }
+    ensures asks { S.asked shelf.new ≤ S.asked shelf.old + most_of (S.files shelf.old) (AReport name.now) }
 {
-    match way {
-        Way::Trace => trace(alloc, config),
-        Way::Boot => boot_in_turns(alloc, config),
+    match shelf.size(name) {
+        Ok(None) => Err(Ending::Absent),
+        Ok(Some(size)) if size > REPORT_LIMIT => Err(Ending::TooLarge(size)),
+        Ok(Some(size)) => report_of_size(alloc, name, size, shelf),
+        Err(Failed) => Err(Ending::Unread),
+    }
+}
+
+// the same for a report of this size
+fn report_of_size<S: Shelf>(
+    alloc: Global,
+    name: &str,
+    size: u64,
+    shelf: &mut S,
+) -> Result<Report, Ending>
+    requires told { IsSizeTold (S.files shelf.old) name.now (Some size) }
+    requires within { size ≤ limit_of (AReport name.now) }
+    ensures files_stay { S.files shelf.new ≡ S.files shelf.old }
+    ensures unfailed { IfOk result (λ r. S.faults shelf.new ≡ S.faults shelf.old) }
+    ensures report { IfOk result (λ r. ReportGives (S.files shelf.old) name.now r) }
+    ensures few { IfOk result (λ r. length r.entries < 2 ^ 32) }
+    ensures ends { IfErr result (IsEnding (S.files shelf.old)
+        (shelves (S.misses shelf.old) (S.misses shelf.new) (S.faults shelf.old) (S.faults shelf.new))
+        (AReport name.now)) }
+    ensures asks { S.asked shelf.new ≤ S.asked shelf.old + most_asked (AReport name.now) size }
+{
+    let bytes = match read_whole(alloc, shelf, name, size) {
+        Ok(bytes) => bytes,
+        Err(FileFailure::Unread) => return Err(Ending::Unread),
+        Err(FileFailure::NoMemory) => return Err(Ending::NoMemory),
+    };
+    match parse_report(alloc, bytes.as_slice()) {
+        Ok(report) => Ok(report),
+        Err(ReportFault::Line { line, why }) => Err(refused(bad_report(alloc, line, why))),
+        Err(ReportFault::NoMemory) => Err(Ending::NoMemory),
     }
 }

@@ -4,15 +4,15 @@
 ghost use Rattle.std.specs.Prelude.{◌≡◌, ◌≤◌, ◌+◌, Some, IfOk, IfErr};
 ghost use Rattle.mpt_base.specs.Outside.{IsSizeTold};
 ghost use Rattle.mpt_spec.specs.Canonical.{IsWellFormed};
-ghost use Rattle.mptab_calls.specs.Forms.{Image, Script as AScript, limit_of, most_asked};
-ghost use Rattle.mptab_calls.specs.Commands.{GivesTables, IsGivenBoard};
+ghost use Rattle.mptab_calls.specs.Forms.{Script as AScript, limit_of, most_asked};
+ghost use Rattle.mptab_calls.specs.Commands.{ImageGives, IsGivenBoard};
 ghost use Rattle.mptab_calls.specs.Walk.{most_of};
 ghost use Rattle.mptab_calls.specs.Ending.{IsEnding, shelves};
 
 use crate::ending::{Ending, refused};
 use crate::file::{FileFailure, read_whole};
 use crate::refusals::{bad_board, bad_script};
-use crate::words::BoardCommand;
+use crate::words::BoardFiles;
 use mpb_boot::board;
 use mpb_script::parse;
 use mpb_spec::Config;
@@ -23,28 +23,29 @@ use std::alloc::Global;
 /// The most bytes of a script: 1 MiB.
 const SCRIPT_LIMIT: u64 = 1_048_576;
 
-/// The config of the board that the command's script describes with the tables, or why the walk ends
+/// The config of the board that the script describes with the tables of its image, or why the walk ends
 /// there.
 pub(crate) fn take_script<S: Shelf>(
     alloc: Global,
-    command: BoardCommand,
+    files: BoardFiles,
     tables: &Tables,
     shelf: &mut S,
 ) -> Result<Config, Ending>
-    requires tables { GivesTables (S.files shelf.old) (Image command.image.now) tables.now }
+    requires tables { ImageGives (S.files shelf.old) files.image.now tables.now }
     requires well_formed { IsWellFormed tables.now }
     ensures files_stay { S.files shelf.new ≡ S.files shelf.old }
+    ensures misses { S.misses shelf.old ≤ S.misses shelf.new }
     ensures unfailed { IfOk result (λ c. S.faults shelf.new ≡ S.faults shelf.old) }
-    ensures board { IfOk result (IsGivenBoard (S.files shelf.old) (AScript command.entry.image.now command.entry.script.now) tables.now) }
+    ensures board { IfOk result (IsGivenBoard (S.files shelf.old) files.entry.image.now files.entry.script.now tables.now) }
     ensures ends { IfErr result (IsEnding (S.files shelf.old)
         (shelves (S.misses shelf.old) (S.misses shelf.new) (S.faults shelf.old) (S.faults shelf.new))
-        (AScript command.entry.image.now command.entry.script.now)) }
-    ensures asks { S.asked shelf.new ≤ S.asked shelf.old + most_of (S.files shelf.old) (AScript command.entry.image.now command.entry.script.now) }
+        (AScript files.entry.image.now files.entry.script.now)) }
+    ensures asks { S.asked shelf.new ≤ S.asked shelf.old + most_of (S.files shelf.old) (AScript files.entry.image.now files.entry.script.now) }
 {
-    match shelf.size(command.script) {
+    match shelf.size(files.script) {
         Ok(None) => Err(Ending::Absent),
         Ok(Some(size)) if size > SCRIPT_LIMIT => Err(Ending::TooLarge(size)),
-        Ok(Some(size)) => script_of_size(alloc, command, tables, size, shelf),
+        Ok(Some(size)) => script_of_size(alloc, files, tables, size, shelf),
         Err(Failed) => Err(Ending::Unread),
     }
 }
@@ -52,24 +53,25 @@ pub(crate) fn take_script<S: Shelf>(
 // the same for a script of this size
 fn script_of_size<S: Shelf>(
     alloc: Global,
-    command: BoardCommand,
+    files: BoardFiles,
     tables: &Tables,
     size: u64,
     shelf: &mut S,
 ) -> Result<Config, Ending>
-    requires tables { GivesTables (S.files shelf.old) (Image command.image.now) tables.now }
+    requires tables { ImageGives (S.files shelf.old) files.image.now tables.now }
     requires well_formed { IsWellFormed tables.now }
-    requires told { IsSizeTold (S.files shelf.old) command.script.now (Some size) }
-    requires within { size ≤ limit_of (AScript command.image.now command.script.now) }
+    requires told { IsSizeTold (S.files shelf.old) files.script.now (Some size) }
+    requires within { size ≤ limit_of (AScript files.image.now files.script.now) }
     ensures files_stay { S.files shelf.new ≡ S.files shelf.old }
+    ensures misses { S.misses shelf.old ≤ S.misses shelf.new }
     ensures unfailed { IfOk result (λ c. S.faults shelf.new ≡ S.faults shelf.old) }
-    ensures board { IfOk result (IsGivenBoard (S.files shelf.old) (AScript command.entry.image.now command.entry.script.now) tables.now) }
+    ensures board { IfOk result (IsGivenBoard (S.files shelf.old) files.entry.image.now files.entry.script.now tables.now) }
     ensures ends { IfErr result (IsEnding (S.files shelf.old)
         (shelves (S.misses shelf.old) (S.misses shelf.new) (S.faults shelf.old) (S.faults shelf.new))
-        (AScript command.entry.image.now command.entry.script.now)) }
-    ensures asks { S.asked shelf.new ≤ S.asked shelf.old + most_asked (AScript command.entry.image.now command.entry.script.now) size }
+        (AScript files.entry.image.now files.entry.script.now)) }
+    ensures asks { S.asked shelf.new ≤ S.asked shelf.old + most_asked (AScript files.entry.image.now files.entry.script.now) size }
 {
-    let bytes = match read_whole(alloc, shelf, command.script, size) {
+    let bytes = match read_whole(alloc, shelf, files.script, size) {
         Ok(bytes) => bytes,
         Err(FileFailure::Unread) => return Err(Ending::Unread),
         Err(FileFailure::NoMemory) => return Err(Ending::NoMemory),

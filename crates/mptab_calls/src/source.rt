@@ -19,7 +19,7 @@ use std::alloc::Global;
 pub(crate) fn take<S: Shelf>(alloc: Global, source: Source, shelf: &mut S) -> Result<Tables, Ending>
     ensures files_stay { S.files shelf.new ≡ S.files shelf.old }
     ensures unfailed { IfOk result (λ t. S.faults shelf.new ≡ S.faults shelf.old) }
-    ensures tables { IfOk result (λ t. GivesTables (S.files shelf.old) (named_of source.entry) t) }
+    ensures tables { IfOk result (λ t. GivesTables (S.files shelf.old) source.entry t) }
     ensures well_formed { IfOk result IsWellFormed }
     ensures low { IfOk result (λ t. t.at < 2 ^ 32) }
     ensures ends { IfErr result (IsEnding (S.files shelf.old)

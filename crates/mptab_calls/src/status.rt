@@ -2,7 +2,7 @@
 
 /// The defined text was written.
 pub(crate) const DONE: u8 = 0;
-/// The audit has findings.
+/// The audit has findings, or the verdict is another than Legal.
 pub(crate) const FINDINGS: u8 = 1;
 /// The words are no listed form.
 pub(crate) const USAGE: u8 = 2;
@@ -16,7 +16,7 @@ pub(crate) const CANNOT_WRITE: u8 = 5;
 pub(crate) const NO_POINTER: u8 = 6;
 /// The tables are refused.
 pub(crate) const REFUSED: u8 = 7;
-/// A listing or a script is refused, or the tables don't fit.
+/// A listing, a script or a report is refused, or the tables don't fit.
 pub(crate) const NOT_LISTED: u8 = 8;
 /// Memory ran out.
 pub(crate) const NO_MEMORY: u8 = 9;
@@ -24,3 +24,9 @@ pub(crate) const NO_MEMORY: u8 = 9;
 pub(crate) const TOO_LARGE: u8 = 10;
 /// Tables and script describe no board.
 pub(crate) const NO_BOARD: u8 = 11;
+/// A MADT is refused, or can't be made.
+pub(crate) const NO_MADT: u8 = 13;
+/// A text of calls is refused.
+pub(crate) const NO_CALLS: u8 = 14;
+/// A PCI IRQ routing table is refused, or can't be made.
+pub(crate) const NO_ROUTING_TABLE: u8 = 15;

@@ -1,5 +1,5 @@
 -- What the laws say of boards: the tables of an image of bytes and a script have one trace, and some boot.
-use Rattle.std.proofs.Common.{◌≡◌, ℕ, ◌<◌, ◌^◌, Bool, true, false, cond, List, [], ◌∷◌, filter, filter_map, map, None, refl, sym, ap, ◌∙◌, arith}
+use Rattle.std.proofs.Common.{◌≡◌, ℕ, ◌<◌, ◌^◌, Bool, true, false, cond, List, [], ◌∷◌, filter, filter_map, map, count_by, None, refl, sym, ap, ◌∙◌, arith}
 use Rattle.std.specs.List.{AllByRecursion}
 use Rattle.mpt_spec.specs.declared.entry.Processor.{Processor}
 use Rattle.mpt_spec.specs.declared.entry.Base.{Base}
@@ -16,16 +16,26 @@ use Rattle.mpb_script.specs.declared.script.Script.{Script}
 use Rattle.mpb_script.specs.Values.{HasScriptValues}
 use Rattle.mpb_setup.specs.Boot.{is_enabled}
 use Rattle.mpb_setup.specs.Board.{enabled_ids}
-use Rattle.mpb_setup.specs.Steps.{AreBytes}
+use Rattle.mpb_spec.specs.Numbers.{AreBytes}
 use Rattle.mpb_setup.proofs.BoardLemmas.{config_right}
 use Rattle.mpb_setup.proofs.StartLemmas.{config_starts}
 use Rattle.mpb_setup.proofs.RoomLemmas.{config_small}
 use Rattle.mpb_start_laws.proofs.StartedOnce.{started_once}
-use Rattle.mpb_latch.specs.declared.pulse.Pulse.{Pulse}
-use Rattle.mpb_latch.specs.declared.pulse.Hit.{Hit}
-use Rattle.mpb_run_laws.proofs.OneEnd.{some_end, same_end}
-use Rattle.mpb_run_laws.proofs.AtTheEnd.{is_complete, is_accounted}
+use Rattle.mpb_spec.specs.declared.pulse.Pulse.{Pulse}
+use Rattle.mpb_spec.specs.declared.pulse.Hit.{Hit}
+use Rattle.mpb_robin.proofs.OneEnd.{some_end, same_end}
+use Rattle.mpb_robin.proofs.AtTheEnd.{is_complete, is_accounted}
 use Rattle.mpb_report.specs.Report.{report_of}
+use Rattle.mpb_drill.specs.Drill.{drill_tables, drill_script}
+use Rattle.mpb_drill.proofs.DrillLemmas.{no_fault_of, values_of, bytes_of}
+use Rattle.mpb_tally.specs.Tally.{tally_of}
+use Rattle.mpb_tally.specs.Summary.{is_routed, summary_of, drill_routes, drill_board, IsSummaryOf}
+use Rattle.mpb_spec.specs.Journal.{final_state_of}
+use Rattle.mpt_route.specs.declared.platform.Platform.{Platform}
+use Rattle.mpf_pic_lines.specs.declared.op.PicOp.{PicOp}
+use Rattle.mpf_pic.specs.Wiring.{wiring_of}
+use Rattle.mpf_pic.specs.Play.{pic_text}
+use Rattle.mpf_played.specs.Played.{IsPlayedBehind}
 use Rattle.mpb_boot.specs.Boot.{board_of, fault_of, IsTraceOf, IsBootOf}
 
 -- ids that are bytes
@@ -52,8 +62,8 @@ bytes_enabled : (tables : Tables) → IsTablesValue tables → AreBytes (enabled
 bytes_enabled tables v = apics (platform_of tables).processors (of_body _ tables.body v.body)
 
 module _ (tables : Tables) (s : Script) (values : IsTablesValue tables) (words : HasScriptValues s) (sound : fault_of tables s ≡ None) where
-  config : IsConfig (board_of tables s)
-  config = config_right (platform_of tables) s sound words
+  pub board_config : IsConfig (board_of tables s)
+  board_config = config_right (platform_of tables) s sound words
 
   small : plan_size (board_of tables s) < 2 ^ 32
   small = (config_small (platform_of tables) s sound words (bytes_enabled tables values)).size
@@ -63,7 +73,7 @@ module _ (tables : Tables) (s : Script) (values : IsTablesValue tables) (words :
 
   pub trace_some : (text : List ℕ) × IsTraceOf (board_of tables s) text
   trace_some =
-      let end = some_end (board_of tables s) config small in
+      let end = some_end (board_of tables s) board_config small in
       (report_of (board_of tables s) end.0.journal end.0.logs, (end.0.journal, end.0.logs, (end.0, end.1, refl, refl), refl))
 
   pub boot_some : (text : List ℕ) × IsBootOf s.page (board_of tables s) text
@@ -71,8 +81,30 @@ module _ (tables : Tables) (s : Script) (values : IsTablesValue tables) (words :
       let t = trace_some in
       let journal = t.1.0 in
       let logs = t.1.1 in
-      let complete = is_complete (board_of tables s) journal logs config small t.1.2 in
-      (t.0, (journal, logs, record { complete = complete; started = started_once s.page (board_of tables s) journal config startable complete; accounts = is_accounted (board_of tables s) journal logs config small t.1.2 }, t.1.3))
+      let complete = is_complete (board_of tables s) journal logs board_config small t.1.2 in
+      (t.0, (journal, logs, record { complete = complete; started = started_once s.page (board_of tables s) journal board_config startable complete; accounts = is_accounted (board_of tables s) journal logs board_config small t.1.2 }, t.1.3))
+
+-- a drill has one summary
+module _ (n : ℕ) where
+  drill_sound : fault_of (drill_tables n) (drill_script n) ≡ None
+  drill_sound = no_fault_of n
+
+  pub drill_some : (text : List ℕ) × IsSummaryOf n text
+  drill_some =
+      let p = platform_of (drill_tables n) in
+      let s = drill_script n in
+      let c = board_of (drill_tables n) s in
+      let config = config_right p s drill_sound (values_of n) in
+      let small = (config_small p s drill_sound (values_of n) (bytes_of n)).size in
+      let end = some_end c config small in
+      (summary_of n (count_by is_routed (drill_routes n)) (tally_of end.0.journal end.0.logs), (end.0.journal, end.0.logs, (end.0, end.1, refl, refl), refl))
+
+pub drill_one : (n : ℕ) (t u : List ℕ) → IsSummaryOf n t → IsSummaryOf n u → t ≡ u
+drill_one n t u a b =
+    let same = same_end (drill_board n) a.2.0 b.2.0 a.2.1 b.2.1 in
+    let journals : a.0 ≡ b.0 = sym a.2.2 ∙ ap (λ r. r.journal) same ∙ b.2.2 in
+    let logs : a.1 ≡ b.1 = sym a.2.3 ∙ ap (λ r. r.logs) same ∙ b.2.3 in
+    a.3 ∙ ap (λ (q : List Entry × List (List (Pulse × Hit))). summary_of n (count_by is_routed (drill_routes n)) (tally_of q.0 q.1)) (λ i. (journals i, logs i)) ∙ sym b.3
 
 pub trace_one : (c : Plan) (t u : List ℕ) → IsTraceOf c t → IsTraceOf c u → t ≡ u
 trace_one c t u a b =
@@ -80,3 +112,13 @@ trace_one c t u a b =
     let journals : a.0 ≡ b.0 = sym a.2.2 ∙ ap (λ r. r.journal) same ∙ b.2.2 in
     let logs : a.1 ≡ b.1 = sym a.2.3 ∙ ap (λ r. r.logs) same ∙ b.2.3 in
     a.3 ∙ ap (λ (q : List Entry × List (List (Pulse × Hit))). report_of c q.0 q.1) (λ i. (journals i, logs i)) ∙ sym b.3
+
+-- calls behind the round robin of a board have one text, and there is one
+pub played_one : (c : Plan) (p : Platform) (ops : List PicOp) (t u : List ℕ) → IsPlayedBehind c p ops t → IsPlayedBehind c p ops u → t ≡ u
+played_one c p ops t u a b =
+    let same = same_end c a.2.0 b.2.0 a.2.1 b.2.1 in
+    let journals : a.0 ≡ b.0 = sym a.2.2 ∙ ap (λ r. r.journal) same ∙ b.2.2 in
+    a.3 ∙ ap (λ (j : List Entry). pic_text (wiring_of c.boot p (final_state_of c j)) ops) journals ∙ sym b.3
+
+pub played_some : (c : Plan) (p : Platform) (ops : List PicOp) → (text : List ℕ) × IsTraceOf c text → (text : List ℕ) × IsPlayedBehind c p ops text
+played_some c p ops t = (pic_text (wiring_of c.boot p (final_state_of c t.1.0)) ops, (t.1.0, t.1.1, t.1.2, refl))

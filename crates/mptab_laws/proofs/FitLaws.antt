@@ -1,5 +1,5 @@
 -- Whether tables have a place in an image of 1 MiB is decided.
-use Rattle.std.proofs.Common.{◌≡◌, ℕ, ◌+◌, ◌%◌, ◌≤◌, ◌⊎◌, List, [], ◌∷◌, length, inl, inr}
+use Rattle.std.proofs.Common.{◌≡◌, ℕ, ◌+◌, ◌%◌, ◌≤◌, ◌⊎◌, List, [], ◌∷◌, length, replicate, refl, inl, inr}
 use Rattle.std.specs.List.{AllByRecursion}
 use Rattle.mpt_spec.specs.declared.pointer.Pointer.{Pointer}
 use Rattle.mpt_spec.specs.declared.entry.Ext.{Ext}
@@ -9,8 +9,9 @@ use Rattle.mpt_spec.specs.declared.tables.Body.{Body}
 use Rattle.mpt_spec.specs.declared.tables.Body.TheVariants as body
 use Rattle.mpt_spec.specs.declared.tables.Tables.{Tables}
 use Rattle.mpt_spec.specs.Table.{default_number}
-use Rattle.mpt_spec.specs.Canonical.{base_size, ext_size, IsLawfulExt, IsWellFormedTable, IsWellFormedBody, IsWellFormed, HasPlaceFor, HasBlockPlace, FitsInImage}
-use Rattle.mpt_laws.proofs.EntryJudgment.{Decided, decided-eq}
+use Rattle.mpt_spec.specs.Revision.{IsKnownRevision}
+use Rattle.mpt_spec.specs.Canonical.{base_size, ext_size, IsLawfulExt, HasFieldsOfRevision, IsWellFormedTable, IsWellFormedBody, IsWellFormed, HasPlaceFor, HasBlockPlace, FitsInImage}
+use Rattle.mpt_laws.proofs.EntryJudgment.{Decided, decided-eq, decided-list}
 use Rattle.mpt_laws.proofs.Decisions.{both, all_three, either, not, at_most}
 
 lawful : (e : Ext) → Decided (IsLawfulExt e)
@@ -23,10 +24,17 @@ all_lawful : (es : List Ext) → Decided (AllByRecursion IsLawfulExt es)
 all_lawful [] = inl tt
 all_lawful (e ∷ es) = both (lawful e) (all_lawful es)
 
+no_entries : (es : List Ext) → Decided (es ≡ [])
+no_entries [] = inl refl
+no_entries (e ∷ es) = inr (λ h. absurd (cc (h)))
+
+fields_of_revision : (t : Table) → Decided (HasFieldsOfRevision t)
+fields_of_revision t = either (both (decided-eq t.revision 4) (decided-list t.old (replicate 4 0))) (all_three (decided-eq t.revision 1) (decided-eq t.reserved 0) (no_entries t.ext))
+
 well_formed_table : (t : Table) → Decided (IsWellFormedTable t)
-well_formed_table t = by_parts (decided-eq t.revision 4) (all_lawful t.ext) (at_most (base_size t) 65535) (at_most (ext_size t) 65535)
+well_formed_table t = by_parts (fields_of_revision t) (all_lawful t.ext) (at_most (base_size t) 65535) (at_most (ext_size t) 65535)
   where
-    by_parts : Decided (t.revision ≡ 4) → Decided (AllByRecursion IsLawfulExt t.ext) → Decided (base_size t ≤ 65535) → Decided (ext_size t ≤ 65535) → Decided (IsWellFormedTable t)
+    by_parts : Decided (HasFieldsOfRevision t) → Decided (AllByRecursion IsLawfulExt t.ext) → Decided (base_size t ≤ 65535) → Decided (ext_size t ≤ 65535) → Decided (IsWellFormedTable t)
     by_parts (inl a) (inl b) (inl c) (inl d) = inl (record { revision = a; lawful = b; base_fits = c; ext_fits = d })
     by_parts (inr n) x y z = inr (λ w. n w.revision)
     by_parts (inl a) (inr n) y z = inr (λ w. n w.lawful)
@@ -38,9 +46,9 @@ well_formed_body (body.Default n) p = all_three (decided-eq (default_number p) n
 well_formed_body (body.Listed t) p = all_three (decided-eq (default_number p) 0) (not (decided-eq p.address 0)) (well_formed_table t)
 
 well_formed : (t : Tables) → Decided (IsWellFormed t)
-well_formed t = by_parts (decided-eq t.pointer.revision 4) (well_formed_body t.body t.pointer) (decided-eq (t.at % 16) 0)
+well_formed t = by_parts (either (decided-eq t.pointer.revision 1) (decided-eq t.pointer.revision 4)) (well_formed_body t.body t.pointer) (decided-eq (t.at % 16) 0)
   where
-    by_parts : Decided (t.pointer.revision ≡ 4) → Decided (IsWellFormedBody t.body t.pointer) → Decided (t.at % 16 ≡ 0) → Decided (IsWellFormed t)
+    by_parts : Decided (IsKnownRevision t.pointer.revision) → Decided (IsWellFormedBody t.body t.pointer) → Decided (t.at % 16 ≡ 0) → Decided (IsWellFormed t)
     by_parts (inl a) (inl b) (inl c) = inl (record { revision = a; body = b; paragraph = c })
     by_parts (inr n) x y = inr (λ w. n w.revision)
     by_parts (inl a) (inr n) y = inr (λ w. n w.body)

@@ -1,4 +1,6 @@
 pub mod BoardRows
+pub mod DrillLaws
+pub mod FirmwareRows
 pub mod FitLaws
 pub mod Rows
 pub mod WalkLaws

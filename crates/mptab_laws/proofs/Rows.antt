@@ -1,13 +1,16 @@
 -- The rows of the laws: what a new form or a new kind of file adds.
-use Rattle.std.proofs.Common.{get_or, ◌≡◌, ℕ, ◌^◌, ◌≤◌, ◌<◌, List, [], ◌∷◌, length, Option, Some, None, IfSome, IsSomeAnd, refl, sym, subst, ◌∙◌, ap, inl, inr, ◌⊎◌, arith}
-use Rattle.std.specs.Prelude.{codes, ⊤}
+use Rattle.std.proofs.Common.{get_or, ◌≡◌, ℕ, zero, suc, ◌^◌, ◌≤◌, ◌<◌, List, [], ◌∷◌, length, Option, Some, None, IfSome, IsSomeAnd, refl, sym, subst, ◌∙◌, ap, inl, inr, ◌⊎◌, arith}
+use Rattle.std.specs.Prelude.{codes, decimal, ⊤}
+use Rattle.std.specs.Str.Parse.{digits_value}
+use Rattle.std.proofs.lemmas.Bool.{cases_lt}
+use Rattle.std.proofs.lemmas.Fmt.{decimal_is_IsNumeral}
 use Rattle.std.specs.List.{AllByRecursion}
 use Rattle.mpt_base.specs.Outside.{Files}
 use Rattle.mpt_spec.specs.declared.tables.Tables.{Tables}
 use Rattle.mpt_spec.specs.Search.{HasPointerAt, HasNoPointer, search_places}
 use Rattle.mpt_spec.specs.Table.{Describes}
 use Rattle.mpt_spec.specs.Faults.{IsFirstFault}
-use Rattle.mpt_spec.specs.Canonical.{IsWellFormed, FitsInImage, block_size, canonical_of}
+use Rattle.mpt_spec.specs.Canonical.{IsWellFormed, FitsInImage, block_size, canonical_of, raised_of}
 use Rattle.mpt_spec.specs.Image.{image_of}
 use Rattle.mpt_parse.specs.declared.fault.LineWhy.{LineWhy}
 use Rattle.mpt_parse.specs.Listings.{IsListing, IsListingOf, IsFirstBadLine}
@@ -42,11 +45,41 @@ use Rattle.mpb_script.proofs.ValueLemmas.{IsScriptOf-values}
 use Rattle.mpb_script_laws.specs.Laws.{IsScript, IsRefused as IsScriptRefused}
 use Rattle.mpb_script_laws.proofs.Judgment.{judged}
 use Rattle.mpb_boot.specs.Boot.{board_of, fault_of, IsTraceOf}
-use Rattle.mpb_boot.specs.Lines.{script_fault_line, board_fault_line, IsScriptFault}
-use Rattle.mptab_laws.proofs.BoardRows.{trace_some, boot_some, trace_one}
-use Rattle.mptab_calls.specs.Forms.{Form, Show, Audit, Canon, Build, Route, Trace, Boot, Named, Image, Listing, Script, IsForm, IsStill, source_of, files_of, name_of, limit_of, IsRead}
-use Rattle.mptab_calls.specs.Commands.{fault_line, no_pointer_line, bad_line_line, unfit_line, status_of, GivesTables, GivesScript, IsUnderstood, IsRefused, IsAnswerTo, IsAnswerBy, IsText}
-use Rattle.mptab_laws.specs.Laws.{AreBytesTold, HasOneText}
+use Rattle.mpb_boot.specs.Lines.{script_fault_line, board_fault_line, IsScriptFault, verdict_line}
+use Rattle.mpb_report_line.specs.declared.report.Report.{Report as AReport}
+use Rattle.mpb_report_parse.specs.Reports.{IsReport, IsReportOf}
+use Rattle.mpb_report_laws.proofs.Complete.{every_text as every_report_text}
+use Rattle.mpb_report_parse.proofs.Unique.{report_is_one, report_is_not_bad, bad_line_is_one as bad_report_is_one}
+use Rattle.mpb_spec.specs.Plan.{Plan}
+use Rattle.mpb_replay_laws.specs.declared.verdict.Verdict.{Verdict}
+use Rattle.mpb_replay_laws.specs.Verdict.{IsVerdict}
+use Rattle.mpb_replay_laws.proofs.OneVerdict.{same_verdict}
+use Rattle.mpb_replay_laws.proofs.Settling.{some_verdict}
+use Rattle.mpf_madt.specs.declared.madt.Madt.{Madt as AMadt}
+use Rattle.mpf_madt.specs.declared.refusal.MadtReason.{MadtReason}
+use Rattle.mpf_madt.specs.Table.{IsMadt}
+use Rattle.mpf_madt.specs.Faults.{IsFirstMadtFault}
+use Rattle.mpf_madt.proofs.FaultLemmas.{IsMadt-unique, IsMadt-no_fault, IsFirstMadtFault-unique}
+use Rattle.mpf_pir.specs.declared.table.Pir.{Pir as APir}
+use Rattle.mpf_pir.specs.declared.table.PirReason.{PirReason}
+use Rattle.mpf_pir.specs.Layout.{IsPir}
+use Rattle.mpf_pir.specs.Faults.{IsFirstPirFault}
+use Rattle.mpf_pir.proofs.LayoutLemmas.{IsPir-one}
+use Rattle.mpf_pir.proofs.FaultLemmas.{IsPir-faultless}
+use Rattle.mpf_laws.specs.Laws.{HasMadt, HasFirstMadtFault, HasPir, HasFirstPirFault}
+use Rattle.mpf_laws.proofs.MadtJudgment.{madt-judged}
+use Rattle.mpf_laws.proofs.PirJudgment.{pir-judged, IsFirstPirFault-unique}
+use Rattle.mpf_pic_lines.specs.declared.op.PicOp.{PicOp}
+use Rattle.mpf_pic_lines.specs.Lines.{IsTextOf, IsJudged as IsJudgedText}
+use Rattle.mpf_pic_lines.specs.Lines as pic
+use Rattle.mpf_pic_lines.proofs.TextLemmas as calls
+use Rattle.mpf_answers.specs.FaultLines.{madt_fault_line, pir_fault_line}
+use Rattle.mpf_answers.specs.LineDifferences.{line_differences_of, line_differences_text}
+use Rattle.mptab_laws.proofs.BoardRows.{board_config, trace_some, boot_some, trace_one, played_one, played_some, drill_some, drill_one}
+use Rattle.mptab_laws.proofs.FirmwareRows.{madt_made_one, madt_made_some, pir_made_one, pir_made_some, pir_compared_one, pir_compared_some}
+use Rattle.mptab_calls.specs.Forms.{Form, Show, Audit, Canon, Raise, Madt, Pirmake, Build, Route, Trace, Boot, Drill, Replay, Madtcmp, Pircmp, Pic, Named, Image, Listing, Script, Report, AcpiTable, RoutingTable, Calls, IsForm, IsStill, files_of, name_of, limit_of, IsRead}
+use Rattle.mptab_calls.specs.Commands.{bad_report_line, bad_calls_line, MadtGives, PirGives, CallsGive, IsMadtMade, IsPirMade, IsMadtCompared, IsPirCompared, IsPlayed, ReportGives, IsJudged, verdict_status, fault_line, no_pointer_line, bad_line_line, unfit_line, status_of, ImageGives, ListingGives, ScriptGives, WithTables, WithBoard, IsUnderstood, IsRefused, IsShown, IsAudited, IsMadeCanonical, IsRaised, IsBuilt, IsRouted, IsTraced, IsBooted, IsDrilled, IsText}
+use Rattle.mptab_laws.specs.Laws.{AreBytesTold, HasOneText, AreAlike}
 
 -- ---- a file that is read
 
@@ -87,34 +120,64 @@ refused_read files (Listing name) status text (inl a) = IsRead-only files (Listi
 refused_read files (Listing name) status text (inr a) = IsRead-only files (Listing name) (IsListingOf a.1) (λ b. ⊤) (λ b e w p. tt) a.2
 refused_read files (Script image name) status text (inl a) = IsRead-only files (Script image name) (λ t. HasFault t a.1) (λ b. ⊤) (λ b e w p. tt) a.3
 refused_read files (Script image name) status text (inr a) = IsRead-only files (Script image name) (λ t. IsScriptOf t a.4) (λ b. ⊤) (λ b e w p. tt) a.5.1
+refused_read files (Report name) status text a = IsRead-only files (Report name) (λ report. IsFirstBadLine IsReport report a.1 a.2) (λ b. ⊤) (λ b e w p. tt) a.3
+refused_read files (AcpiTable name) status text a = IsRead-only files (AcpiTable name) (λ bytes. IsFirstMadtFault bytes a.1 a.2) (λ b. ⊤) (λ b e w p. tt) a.3
+refused_read files (RoutingTable name) status text a = IsRead-only files (RoutingTable name) (λ bytes. IsFirstPirFault bytes a.1 a.2) (λ b. ⊤) (λ b e w p. tt) a.3
+refused_read files (Calls name) status text a = IsRead-only files (Calls name) (λ text. pic.IsFirstBadLine text a.1) (λ b. ⊤) (λ b e w p. tt) a.2
 
 pub understood_read : (files : Files) (file : Named) → IsUnderstood (Some files) file → IsRead (Some files) file (λ b. ⊤)
 understood_read files (Image name) u = IsRead-only files (Image name) (λ image. Describes image u.0) (λ b. ⊤) (λ b e w p. tt) u.1
 understood_read files (Listing name) u = IsRead-only files (Listing name) (IsListingOf u.0) (λ b. ⊤) (λ b e w p. tt) u.1.1
 understood_read files (Script image name) u = IsRead-only files (Script image name) (λ t. IsScriptOf t u.3) (λ b. ⊤) (λ b e w p. tt) u.4.1
+understood_read files (Report name) u = IsRead-only files (Report name) (IsReportOf u.0) (λ b. ⊤) (λ b e w p. tt) u.1
+understood_read files (AcpiTable name) u = IsRead-only files (AcpiTable name) (IsMadt u.0) (λ b. ⊤) (λ b e w p. tt) u.1
+understood_read files (RoutingTable name) u = IsRead-only files (RoutingTable name) (IsPir u.0) (λ b. ⊤) (λ b e w p. tt) u.1
+understood_read files (Calls name) u = IsRead-only files (Calls name) (IsTextOf u.0) (λ b. ⊤) (λ b e w p. tt) u.1
 
--- a file gives one tables alone
-gives_one : (files : Files) (file : Named) (t u : Tables) → GivesTables (Some files) file t → GivesTables (Some files) file u → t ≡ u
-gives_one files (Image name) t u a b =
+-- an image gives one tables alone
+image_one : (files : Files) (name : List ℕ) (t u : Tables) → ImageGives (Some files) name t → ImageGives (Some files) name u → t ≡ u
+image_one files name t u a b =
     let both = IsRead-meet files (Image name) (λ image. Describes image t) (λ image. Describes image u) a b in
     Describes-unique both.0 t u both.1 both.2
-gives_one files (Listing name) t u a b =
+
+-- so does a listing
+listing_one : (files : Files) (name : List ℕ) (t u : Tables) → ListingGives (Some files) name t → ListingGives (Some files) name u → t ≡ u
+listing_one files name t u a b =
     let both = IsRead-meet files (Listing name) (IsListingOf t) (IsListingOf u) a.1 b.1 in
     listing_is_one t u both.0 both.1 both.2
-gives_one files (Script image name) t u a b =
-    let both = IsRead-meet files (Image image) (λ bytes. Describes bytes t) (λ bytes. Describes bytes u) a b in
-    Describes-unique both.0 t u both.1 both.2
 
--- and one script
-script_one : (files : Files) (file : Named) (s u : AScript) → GivesScript (Some files) file s → GivesScript (Some files) file u → s ≡ u
-script_one files file s u a b =
-    let both = IsRead-meet files file (λ t. IsScriptOf t s) (λ t. IsScriptOf t u) a.1 b.1 in
+-- and a script is one
+script_one : (files : Files) (image name : List ℕ) (s u : AScript) → ScriptGives (Some files) image name s → ScriptGives (Some files) image name u → s ≡ u
+script_one files image name s u a b =
+    let both = IsRead-meet files (Script image name) (λ t. IsScriptOf t s) (λ t. IsScriptOf t u) a.1 b.1 in
     IsScriptOf-unique both.0 s u both.1 both.2
 
+-- and a report
+report_one : (files : Files) (name : List ℕ) (r q : AReport) → ReportGives (Some files) name r → ReportGives (Some files) name q → r ≡ q
+report_one files name r q a b =
+    let both = IsRead-meet files (Report name) (IsReportOf r) (IsReportOf q) a b in
+    report_is_one r q both.0 both.1 both.2
+
+-- and a table of firmware, and a text of calls
+madt_one : (files : Files) (name : List ℕ) (m n : AMadt) → MadtGives (Some files) name m → MadtGives (Some files) name n → m ≡ n
+madt_one files name m n a b =
+    let both = IsRead-meet files (AcpiTable name) (IsMadt m) (IsMadt n) a b in
+    IsMadt-unique m n both.0 both.1 both.2
+
+pir_one : (files : Files) (name : List ℕ) (t u : APir) → PirGives (Some files) name t → PirGives (Some files) name u → t ≡ u
+pir_one files name t u a b =
+    let both = IsRead-meet files (RoutingTable name) (IsPir t) (IsPir u) a b in
+    IsPir-one t u both.0 both.1 both.2
+
+calls_one : (files : Files) (name : List ℕ) (xs ys : List PicOp) → CallsGive (Some files) name xs → CallsGive (Some files) name ys → xs ≡ ys
+calls_one files name xs ys a b =
+    let both = IsRead-meet files (Calls name) (IsTextOf xs) (IsTextOf ys) a b in
+    calls.one_text xs ys both.0 both.1 both.2
+
 -- so nothing, or one thing, speaks against their board
-fault_one : (files : Files) (image name : List ℕ) (t u : Tables) (s r : AScript) → GivesTables (Some files) (Image image) t → GivesTables (Some files) (Image image) u → GivesScript (Some files) (Script image name) s → GivesScript (Some files) (Script image name) r → fault_of t s ≡ fault_of u r
+fault_one : (files : Files) (image name : List ℕ) (t u : Tables) (s r : AScript) → ImageGives (Some files) image t → ImageGives (Some files) image u → ScriptGives (Some files) image name s → ScriptGives (Some files) image name r → fault_of t s ≡ fault_of u r
 fault_one files image name t u s r a b c d =
-    ap (λ (q : Tables). fault_of q s) (gives_one files (Image image) t u a b) ∙ ap (λ (q : AScript). fault_of u q) (script_one files (Script image name) s r c d)
+    ap (λ (q : Tables). fault_of q s) (image_one files image t u a b) ∙ ap (λ (q : AScript). fault_of u q) (script_one files image name s r c d)
 
 pub refused_not_understood : (files : Files) (file : Named) (status : ℕ) (text : List ℕ) → IsRefused (Some files) file status text → IsUnderstood (Some files) file → ⊥
 refused_not_understood files (Image name) status text (inl a) u =
@@ -135,6 +198,18 @@ refused_not_understood files (Script image name) status text (inl a) u =
 refused_not_understood files (Script image name) status text (inr a) u =
     let same : Some a.6 ≡ None = sym a.7 ∙ fault_one files image name a.1 u.0 a.4 u.3 a.3 u.2 a.5 u.4 ∙ u.5 in
     cc
+refused_not_understood files (Report name) status text a u =
+    let both = IsRead-meet files (Report name) (λ report. IsFirstBadLine IsReport report a.1 a.2) (IsReportOf u.0) a.3 u.1 in
+    report_is_not_bad u.0 both.0 a.1 a.2 both.2 both.1
+refused_not_understood files (AcpiTable name) status text a u =
+    let both = IsRead-meet files (AcpiTable name) (λ bytes. IsFirstMadtFault bytes a.1 a.2) (IsMadt u.0) a.3 u.1 in
+    IsMadt-no_fault u.0 both.0 a.1 a.2 both.2 both.1.stands
+refused_not_understood files (RoutingTable name) status text a u =
+    let both = IsRead-meet files (RoutingTable name) (λ bytes. IsFirstPirFault bytes a.1 a.2) (IsPir u.0) a.3 u.1 in
+    IsPir-faultless u.0 both.0 both.2 a.1 a.2 both.1.stands
+refused_not_understood files (Calls name) status text a u =
+    let both = IsRead-meet files (Calls name) (λ text. pic.IsFirstBadLine text a.1) (IsTextOf u.0) a.2 u.1 in
+    calls.not_both u.0 both.0 a.1 both.2 both.1
 
 pub refused_one : (files : Files) (file : Named) (s u : ℕ) (t v : List ℕ) → IsRefused (Some files) file s t → IsRefused (Some files) file u v → (s ≡ u) × (t ≡ v)
 refused_one files (Image name) s u t v (inl a) (inl b) = (a.0 ∙ sym b.0, a.2 ∙ sym b.2)
@@ -175,11 +250,31 @@ refused_one files (Script image name) s u t v (inr a) (inr b) =
     let both : Some a.6 ≡ Some b.6 = sym a.7 ∙ fault_one files image name a.1 b.1 a.4 b.4 a.3 b.3 a.5 b.5 ∙ b.7 in
     let same : a.6 ≡ b.6 = cc in
     (a.0 ∙ sym b.0, a.8 ∙ ap board_fault_line same ∙ sym b.8)
+refused_one files (Report name) s u t v a b =
+    let both = IsRead-meet files (Report name) (λ report. IsFirstBadLine IsReport report a.1 a.2) (λ report. IsFirstBadLine IsReport report b.1 b.2) a.3 b.3 in
+    let same = bad_report_is_one both.0 a.1 b.1 a.2 b.2 both.1 both.2 in
+    (a.0 ∙ sym b.0, a.4 ∙ rw (same.0, same.1) refl ∙ sym b.4)
+refused_one files (AcpiTable name) s u t v a b =
+    let both = IsRead-meet files (AcpiTable name) (λ bytes. IsFirstMadtFault bytes a.1 a.2) (λ bytes. IsFirstMadtFault bytes b.1 b.2) a.3 b.3 in
+    let same = IsFirstMadtFault-unique both.0 a.1 b.1 a.2 b.2 both.1 both.2 in
+    (a.0 ∙ sym b.0, a.4 ∙ rw (same.0, same.1) refl ∙ sym b.4)
+refused_one files (RoutingTable name) s u t v a b =
+    let both = IsRead-meet files (RoutingTable name) (λ bytes. IsFirstPirFault bytes a.1 a.2) (λ bytes. IsFirstPirFault bytes b.1 b.2) a.3 b.3 in
+    let same = IsFirstPirFault-unique both.0 a.1 b.1 a.2 b.2 both.1 both.2 in
+    (a.0 ∙ sym b.0, a.4 ∙ rw (same.0, same.1) refl ∙ sym b.4)
+refused_one files (Calls name) s u t v a b =
+    let both = IsRead-meet files (Calls name) (λ text. pic.IsFirstBadLine text a.1) (λ text. pic.IsFirstBadLine text b.1) a.2 b.2 in
+    (a.0 ∙ sym b.0, a.3 ∙ ap bad_calls_line (calls.one_line both.0 a.1 b.1 both.1 both.2) ∙ sym b.3)
 
 -- what has to be understood before a file of this kind
 abbrev pub IsReady : Files → Named → Type 0
-IsReady files (Script image name) = (tables : Tables) × IsWellFormed tables × GivesTables (Some files) (Image image) tables
-IsReady files file = ⊤
+IsReady files (Image name) = ⊤
+IsReady files (Listing name) = ⊤
+IsReady files (Report name) = ⊤
+IsReady files (AcpiTable name) = ⊤
+IsReady files (RoutingTable name) = ⊤
+IsReady files (Calls name) = ⊤
+IsReady files (Script image name) = (tables : Tables) × IsWellFormed tables × ImageGives (Some files) image tables
 
 -- a fault that a text has is no want of memory
 some_fault : (text : List ℕ) (f : ScriptFault) → HasFault text f → IsScriptFault f
@@ -210,13 +305,33 @@ file_judged files (Listing name) b ready e within = by_case (every_text b)
     by_case (inr f) = inr (8, bad_line_line f.0 f.1, inl (refl, f.0, f.1, IsRead-of files (Listing name) (λ listing. IsFirstBadLine IsListing listing f.0 f.1) b e within f.2, refl))
 file_judged files (Script image name) b ready e within = by_case (judged b)
   where
-    board : (s : AScript) → GivesScript (Some files) (Script image name) s → (x : Option BoardError) → fault_of ready.0 s ≡ x → IsUnderstood (Some files) (Script image name) ⊎ ((n : ℕ) × (u : List ℕ) × IsRefused (Some files) (Script image name) n u)
+    board : (s : AScript) → ScriptGives (Some files) image name s → (x : Option BoardError) → fault_of ready.0 s ≡ x → IsUnderstood (Some files) (Script image name) ⊎ ((n : ℕ) × (u : List ℕ) × IsRefused (Some files) (Script image name) n u)
     board s gives None w = inl (ready.0, ready.1, ready.2, s, gives, w)
     board s gives (Some f) w = inr (11, board_fault_line f, inr (refl, ready.0, ready.1, ready.2, s, gives, f, w, refl))
 
     by_case : IsScript b ⊎ IsScriptRefused b → IsUnderstood (Some files) (Script image name) ⊎ ((n : ℕ) × (u : List ℕ) × IsRefused (Some files) (Script image name) n u)
     by_case (inl d) = board d.0 (IsScriptOf-values b d.0 d.1, IsRead-of files (Script image name) (λ t. IsScriptOf t d.0) b e within d.1) (fault_of ready.0 d.0) refl
     by_case (inr f) = inr (8, script_fault_line f.0, inl (refl, f.0, some_fault b f.0 f.1, IsRead-of files (Script image name) (λ t. HasFault t f.0) b e within f.1, refl))
+file_judged files (Report name) b ready e within = by_case (every_report_text b (omega (arith, within)))
+  where
+    by_case : ((r : AReport) × IsReportOf r b) ⊎ ((n : ℕ) × (w : LineWhy) × IsFirstBadLine IsReport b n w) → IsUnderstood (Some files) (Report name) ⊎ ((s : ℕ) × (t : List ℕ) × IsRefused (Some files) (Report name) s t)
+    by_case (inl r) = inl (r.0, IsRead-of files (Report name) (IsReportOf r.0) b e within r.1)
+    by_case (inr f) = inr (8, bad_report_line f.0 f.1, (refl, f.0, f.1, IsRead-of files (Report name) (λ report. IsFirstBadLine IsReport report f.0 f.1) b e within f.2, refl))
+file_judged files (AcpiTable name) b ready e within = by_case (madt-judged b)
+  where
+    by_case : HasMadt b ⊎ HasFirstMadtFault b → IsUnderstood (Some files) (AcpiTable name) ⊎ ((s : ℕ) × (t : List ℕ) × IsRefused (Some files) (AcpiTable name) s t)
+    by_case (inl m) = inl (m.0, IsRead-of files (AcpiTable name) (IsMadt m.0) b e within m.1)
+    by_case (inr f) = inr (13, madt_fault_line f.0 f.1, (refl, f.0, f.1, IsRead-of files (AcpiTable name) (λ bytes. IsFirstMadtFault bytes f.0 f.1) b e within f.2, refl))
+file_judged files (RoutingTable name) b ready e within = by_case (pir-judged b)
+  where
+    by_case : HasPir b ⊎ HasFirstPirFault b → IsUnderstood (Some files) (RoutingTable name) ⊎ ((s : ℕ) × (t : List ℕ) × IsRefused (Some files) (RoutingTable name) s t)
+    by_case (inl t) = inl (t.0, IsRead-of files (RoutingTable name) (IsPir t.0) b e within t.1)
+    by_case (inr f) = inr (15, pir_fault_line f.0 f.1, (refl, f.0, f.1, IsRead-of files (RoutingTable name) (λ bytes. IsFirstPirFault bytes f.0 f.1) b e within f.2, refl))
+file_judged files (Calls name) b ready e within = by_case (calls.every_text b)
+  where
+    by_case : IsJudgedText b → IsUnderstood (Some files) (Calls name) ⊎ ((s : ℕ) × (t : List ℕ) × IsRefused (Some files) (Calls name) s t)
+    by_case (inl c) = inl (c.0, IsRead-of files (Calls name) (IsTextOf c.0) b e within c.1)
+    by_case (inr f) = inr (14, bad_calls_line f.0, (refl, f.0, IsRead-of files (Calls name) (λ text. pic.IsFirstBadLine text f.0) b e within f.1, refl))
 
 -- ---- rows of the forms
 
@@ -229,269 +344,221 @@ AreReady files (f ∷ fs) = IsReady files f × (IsUnderstood (Some files) f → 
 told_byte : (held : Option (List ℕ)) (b : List ℕ) → held ≡ Some b → IfSome held IsByteList → IsByteList b
 told_byte held b e h = subst (λ (o : Option (List ℕ)). IfSome o IsByteList) e h
 
--- and they are well formed, their place below 4 GiB
-gives_good : (files : Files) (file : Named) (t : Tables) → AreBytesTold files → GivesTables (Some files) file t → IsWellFormed t × (t.at < 2 ^ 32)
-gives_good files (Image name) t bytes gives =
+-- tables that are given are well formed, their place below 4 GiB
+image_good : (files : Files) (name : List ℕ) (t : Tables) → AreBytesTold files → ImageGives (Some files) name t → IsWellFormed t × (t.at < 2 ^ 32)
+image_good files name t bytes gives =
     let read = IsRead-bytes files (Image name) (λ image. Describes image t) gives in
     let are = told_byte (files name) read.0 read.1 (bytes name) in
     (Describes-well_formed read.0 t are read.3, Describes-below_4_gib read.0 t are read.3)
-gives_good files (Listing name) t bytes gives = (gives.0.well_formed, omega (arith, gives.0.high))
-gives_good files (Script image name) t bytes gives =
-    let read = IsRead-bytes files (Image image) (λ b. Describes b t) gives in
-    let are = told_byte (files image) read.0 read.1 (bytes image) in
-    (Describes-well_formed read.0 t are read.3, Describes-below_4_gib read.0 t are read.3)
+
+listing_good : (files : Files) (name : List ℕ) (t : Tables) → ListingGives (Some files) name t → IsWellFormed t × (t.at < 2 ^ 32)
+listing_good files name t gives = (gives.0.well_formed, omega (arith, gives.0.high))
 
 -- the values of an image's tables fit their fields
-gives_values : (files : Files) (name : List ℕ) (t : Tables) → AreBytesTold files → GivesTables (Some files) (Image name) t → IsTablesValue t
-gives_values files name t bytes gives =
+image_values : (files : Files) (name : List ℕ) (t : Tables) → AreBytesTold files → ImageGives (Some files) name t → IsTablesValue t
+image_values files name t bytes gives =
     let read = IsRead-bytes files (Image name) (λ image. Describes image t) gives in
     Describes-value read.0 t (told_byte (files name) read.0 read.1 (bytes name)) read.3
 
 -- behind an image that gives tables its script can be judged
 board_ready : (files : Files) (image script : List ℕ) → AreBytesTold files → AreReady files (Image image ∷ Script image script ∷ [])
-board_ready files image script bytes = (tt, λ u. ((u.0, (gives_good files (Image image) u.0 bytes u.1).0, u.1), λ v. tt))
+board_ready files image script bytes = (tt, λ u. ((u.0, (image_good files image u.0 bytes u.1).0, u.1), λ v. tt))
 
 pub form_ready : (files : Files) (form : Form) → AreBytesTold files → AreReady files (files_of form)
 form_ready files (Show image) bytes = (tt, λ u. tt)
 form_ready files (Audit image) bytes = (tt, λ u. tt)
 form_ready files (Canon image) bytes = (tt, λ u. tt)
+form_ready files (Raise image) bytes = (tt, λ u. tt)
+form_ready files (Madt image elcr) bytes = (tt, λ u. tt)
+form_ready files (Pirmake image) bytes = (tt, λ u. tt)
 form_ready files (Build listing) bytes = (tt, λ u. tt)
 form_ready files (Route image elcr) bytes = (tt, λ u. tt)
 form_ready files (Trace image script) bytes = board_ready files image script bytes
 form_ready files (Boot image script) bytes = board_ready files image script bytes
+form_ready files (Drill n) bytes = tt
+form_ready files (Replay image script report) bytes = (tt, λ u. ((u.0, (image_good files image u.0 bytes u.1).0, u.1), λ v. (tt, λ w. tt)))
+form_ready files (Madtcmp image elcr madt) bytes = (tt, λ u. (tt, λ v. tt))
+form_ready files (Pircmp image table) bytes = (tt, λ u. (tt, λ v. tt))
+form_ready files (Pic image script calls) bytes = (tt, λ u. ((u.0, (image_good files image u.0 bytes u.1).0, u.1), λ v. (tt, λ w. tt)))
 
--- tables give a form one answer alone
-answer_to_one : (form : Form) (tables : Tables) (s u : ℕ) (t v : List ℕ) → HasOneText form → IsAnswerTo form tables s t → IsAnswerTo form tables u v → (s ≡ u) × (t ≡ v)
-answer_to_one (Show name) tables s u t v one a b = (a.0 ∙ sym b.0, a.1 ∙ sym b.1)
-answer_to_one (Audit name) tables s u t v one a b =
+-- what is one of all given tables is one of those that a file gives
+with_one : (gives : Tables → Type 0) (P Q : Tables → Type 0) (R : Type 0) → ((t u : Tables) → gives t → gives u → t ≡ u) → ((t : Tables) → P t → Q t → R) → WithTables gives P → WithTables gives Q → R
+with_one gives P Q R one both a b = both a.0 a.4 (subst Q (sym (one a.0 b.0 a.3 b.3)) b.4)
+
+-- and of a board
+board_one : (files : Files) (image script : List ℕ) (P Q : Tables → AScript → Type 0) (R : Type 0) → ((t : Tables) (s : AScript) → P t s → Q t s → R) → WithBoard (Some files) image script P → WithBoard (Some files) image script Q → R
+board_one files image script P Q R both a b =
+    with_one (ImageGives (Some files) image) _ _ R (image_one files image)
+    (λ t p q. both t p.0 p.3 (subst (Q t) (sym (script_one files image script p.0 q.0 p.1 q.1)) q.3)) a b
+
+audit_one : (tables : Tables) (s u : ℕ) (t v : List ℕ) → IsAudited tables s t → IsAudited tables u v → (s ≡ u) × (t ≡ v)
+audit_one tables s u t v a b =
     let same = findings-one tables a.0 b.0 a.1 b.1 in
     (a.2 ∙ ap status_of same ∙ sym b.2, a.3 ∙ ap findings_text same ∙ sym b.3)
-answer_to_one (Canon name) tables s u t v one (inl a) (inl b) = (a.0 ∙ sym b.0, a.2 ∙ sym b.2)
-answer_to_one (Canon name) tables s u t v one (inl a) (inr b) = absurd (b.1 a.1)
-answer_to_one (Canon name) tables s u t v one (inr a) (inl b) = absurd (a.1 b.1)
-answer_to_one (Canon name) tables s u t v one (inr a) (inr b) = (a.0 ∙ sym b.0, a.2 ∙ sym b.2)
-answer_to_one (Build name) tables s u t v one a b = (a.0 ∙ sym b.0, a.1 ∙ sym b.1)
-answer_to_one (Route name elcr) tables s u t v one a b = (a.0 ∙ sym b.0, a.1 ∙ sym b.1)
-answer_to_one (Trace image script) tables s u t v one a b = absurd a
-answer_to_one (Boot image script) tables s u t v one a b = absurd a
 
-answer_by_one : (files : Files) (form : Form) (tables : Tables) (s u : ℕ) (t v : List ℕ) → HasOneText form → IsAnswerBy (Some files) form tables s t → IsAnswerBy (Some files) form tables u v → (s ≡ u) × (t ≡ v)
-answer_by_one files (Show name) tables s u t v one a b = answer_to_one (Show name) tables s u t v one a b
-answer_by_one files (Audit name) tables s u t v one a b = answer_to_one (Audit name) tables s u t v one a b
-answer_by_one files (Canon name) tables s u t v one a b = answer_to_one (Canon name) tables s u t v one a b
-answer_by_one files (Build name) tables s u t v one a b = answer_to_one (Build name) tables s u t v one a b
-answer_by_one files (Route name elcr) tables s u t v one a b = answer_to_one (Route name elcr) tables s u t v one a b
-answer_by_one files (Trace image script) tables s u t v one a b =
-    let same = script_one files (Script image script) a.0 b.0 a.1 b.1 in
-    (a.3 ∙ sym b.3, trace_one (board_of tables b.0) t v (subst (λ (x : AScript). IsTraceOf (board_of tables x) t) same a.4) b.4)
-answer_by_one files (Boot image script) tables s u t v one a b = absurd one
+canon_one : (tables : Tables) (s u : ℕ) (t v : List ℕ) → IsMadeCanonical tables s t → IsMadeCanonical tables u v → (s ≡ u) × (t ≡ v)
+canon_one tables s u t v (inl a) (inl b) = (a.0 ∙ sym b.0, a.2 ∙ sym b.2)
+canon_one tables s u t v (inl a) (inr b) = absurd (b.1 a.1)
+canon_one tables s u t v (inr a) (inl b) = absurd (a.1 b.1)
+canon_one tables s u t v (inr a) (inr b) = (a.0 ∙ sym b.0, a.2 ∙ sym b.2)
 
--- and give it one, where the files behind them are understood too
-answer_by_some : (files : Files) (form : Form) (tables : Tables) → AreBytesTold files → GivesTables (Some files) (source_of form) tables → AllByRecursion (IsUnderstood (Some files)) (files_of form) → (s : ℕ) × (t : List ℕ) × IsAnswerBy (Some files) form tables s t
-answer_by_some files (Show name) tables bytes gives all = (0, listing_of tables, (refl, refl))
-answer_by_some files (Audit name) tables bytes gives all = let found = findings-some tables in (status_of found.0, findings_text found.0, (found.0, found.1, refl, refl))
-answer_by_some files (Canon name) tables bytes gives all = by_fit (fits_decided tables)
-  where
-    by_fit : Decided (FitsInImage tables) → (s : ℕ) × (t : List ℕ) × IsAnswerBy (Some files) (Canon name) tables s t
-    by_fit (inl fitting) = (0, image_of (canonical_of tables), inl (refl, fitting, refl))
-    by_fit (inr unfit) = (8, unfit_line (block_size tables.body), inr (refl, unfit, refl))
-answer_by_some files (Build name) tables bytes gives all = (0, image_of tables, (refl, refl))
-answer_by_some files (Route name elcr) tables bytes gives all = (0, routes_text (routes_of (platform_of tables) elcr), (refl, refl))
-answer_by_some files (Trace image script) tables bytes gives all =
-    let u = all.1.0 in
-    let sound = ap (λ (q : Tables). fault_of q u.3) (gives_one files (Image image) tables u.0 gives u.2) ∙ u.5 in
-    let t = trace_some tables u.3 (gives_values files image tables bytes gives) u.4.0 sound in
-    (0, t.0, (u.3, u.4, sound, refl, t.1))
-answer_by_some files (Boot image script) tables bytes gives all =
-    let u = all.1.0 in
-    let sound = ap (λ (q : Tables). fault_of q u.3) (gives_one files (Image image) tables u.0 gives u.2) ∙ u.5 in
-    let t = boot_some tables u.3 (gives_values files image tables bytes gives) u.4.0 sound in
-    (0, t.0, (u.3, u.4, sound, refl, t.1))
+raise_one : (tables : Tables) (s u : ℕ) (t v : List ℕ) → IsRaised tables s t → IsRaised tables u v → (s ≡ u) × (t ≡ v)
+raise_one tables s u t v (inl a) (inl b) = (a.0 ∙ sym b.0, a.2 ∙ sym b.2)
+raise_one tables s u t v (inl a) (inr b) = absurd (b.1 a.1)
+raise_one tables s u t v (inr a) (inl b) = absurd (a.1 b.1)
+raise_one tables s u t v (inr a) (inr b) = (a.0 ∙ sym b.0, a.2 ∙ sym b.2)
 
 pub text_one : (files : Files) (form : Form) (s u : ℕ) (t v : List ℕ) → HasOneText form → IsText (Some files) form s t → IsText (Some files) form u v → (s ≡ u) × (t ≡ v)
-text_one files form s u t v one a b =
-    let same : a.0 ≡ b.0 = gives_one files (source_of form) a.0 b.0 a.3 b.3 in
-    answer_by_one files form a.0 s u t v one a.4 (subst (λ (x : Tables). IsAnswerBy (Some files) form x u v) (sym same) b.4)
+text_one files (Show name) s u t v one a b = with_one (ImageGives (Some files) name) _ _ ((s ≡ u) × (t ≡ v)) (image_one files name) (λ tables p q. (p.0 ∙ sym q.0, p.1 ∙ sym q.1)) a b
+text_one files (Audit name) s u t v one a b = with_one (ImageGives (Some files) name) _ _ ((s ≡ u) × (t ≡ v)) (image_one files name) (λ tables p q. audit_one tables s u t v p q) a b
+text_one files (Canon name) s u t v one a b = with_one (ImageGives (Some files) name) _ _ ((s ≡ u) × (t ≡ v)) (image_one files name) (λ tables p q. canon_one tables s u t v p q) a b
+text_one files (Raise name) s u t v one a b = with_one (ImageGives (Some files) name) _ _ ((s ≡ u) × (t ≡ v)) (image_one files name) (λ tables p q. raise_one tables s u t v p q) a b
+text_one files (Madt name elcr) s u t v one a b = with_one (ImageGives (Some files) name) _ _ ((s ≡ u) × (t ≡ v)) (image_one files name) (λ tables p q. madt_made_one elcr tables s u t v p q) a b
+text_one files (Pirmake name) s u t v one a b = with_one (ImageGives (Some files) name) _ _ ((s ≡ u) × (t ≡ v)) (image_one files name) (λ tables p q. pir_made_one tables s u t v p q) a b
+text_one files (Build name) s u t v one a b = with_one (ListingGives (Some files) name) _ _ ((s ≡ u) × (t ≡ v)) (listing_one files name) (λ tables p q. (p.0 ∙ sym q.0, p.1 ∙ sym q.1)) a b
+text_one files (Route name elcr) s u t v one a b = with_one (ImageGives (Some files) name) _ _ ((s ≡ u) × (t ≡ v)) (image_one files name) (λ tables p q. (p.0 ∙ sym q.0, p.1 ∙ sym q.1)) a b
+text_one files (Trace image script) s u t v one a b =
+    board_one files image script _ _ ((s ≡ u) × (t ≡ v)) (λ tables x p q. (p.0 ∙ sym q.0, trace_one (board_of tables x) t v p.1 q.1)) a b
+text_one files (Boot image script) s u t v one a b = absurd one
+text_one files (Replay image script report) s u t v one a b = board_one files image script _ _ ((s ≡ u) × (t ≡ v)) (λ tables x p q. judged_one (board_of tables x) p q) a b
+  where
+    judged_one : (c : Plan) → (r : AReport) × ReportGives (Some files) report r × IsJudged c r s t → (r : AReport) × ReportGives (Some files) report r × IsJudged c r u v → (s ≡ u) × (t ≡ v)
+    judged_one c (r, a, (v1, is1, s1, t1)) (q, b, (v2, is2, s2, t2)) =
+        let one : r ≡ q = report_one files report r q a b in
+        let same : v1 ≡ v2 = same_verdict c r v1 v2 is1 (subst (λ (x : AReport). IsVerdict c x v2) (sym one) is2) in
+        (s1 ∙ ap verdict_status same ∙ sym s2, t1 ∙ ap verdict_line same ∙ sym t2)
+text_one files (Madtcmp name elcr madt) s u t v one a b = with_one (ImageGives (Some files) name) _ _ ((s ≡ u) × (t ≡ v)) (image_one files name) compared a b
+  where
+    compared : (tables : Tables) → (m : AMadt) × MadtGives (Some files) madt m × IsMadtCompared elcr tables m s t → (m : AMadt) × MadtGives (Some files) madt m × IsMadtCompared elcr tables m u v → (s ≡ u) × (t ≡ v)
+    compared tables (m, g, a) (n, h, b) =
+        let same : m ≡ n = madt_one files madt m n g h in
+        let one : IsMadtCompared elcr tables m u v = subst (λ (x : AMadt). IsMadtCompared elcr tables x u v) (sym same) b in
+        (a.0 ∙ sym one.0, a.1 ∙ sym one.1)
+text_one files (Pircmp name table) s u t v one a b = with_one (ImageGives (Some files) name) _ _ ((s ≡ u) × (t ≡ v)) (image_one files name) compared a b
+  where
+    compared : (tables : Tables) → (r : APir) × PirGives (Some files) table r × IsPirCompared tables r s t → (r : APir) × PirGives (Some files) table r × IsPirCompared tables r u v → (s ≡ u) × (t ≡ v)
+    compared tables (r, g, a) (q, h, b) =
+        let same : r ≡ q = pir_one files table r q g h in
+        pir_compared_one tables r s u t v a (subst (λ (x : APir). IsPirCompared tables x u v) (sym same) b)
+text_one files (Pic image script calls) s u t v one a b = board_one files image script _ _ ((s ≡ u) × (t ≡ v)) played a b
+  where
+    played : (tables : Tables) (x : AScript) → (ops : List PicOp) × CallsGive (Some files) calls ops × IsPlayed tables x ops s t → (ops : List PicOp) × CallsGive (Some files) calls ops × IsPlayed tables x ops u v → (s ≡ u) × (t ≡ v)
+    played tables x (xs, g, a) (ys, h, b) =
+        let same : xs ≡ ys = calls_one files calls xs ys g h in
+        let one : IsPlayed tables x xs u v = subst (λ (ops : List PicOp). IsPlayed tables x ops u v) (sym same) b in
+        (a.0 ∙ sym one.0, played_one (board_of tables x) (platform_of tables) xs t v a.1 one.1)
+text_one files (Drill n) s u t v one a b = (a.0 ∙ sym b.0, drill_one n t v a.1 b.1)
 
--- what gives a form its tables, where that file is understood
-source_gives : (files : Files) (form : Form) → IsUnderstood (Some files) (source_of form) → (tables : Tables) × GivesTables (Some files) (source_of form) tables
-source_gives files (Show image) u = u
-source_gives files (Audit image) u = u
-source_gives files (Canon image) u = u
-source_gives files (Build listing) u = u
-source_gives files (Route image elcr) u = u
-source_gives files (Trace image script) u = u
-source_gives files (Boot image script) u = u
+-- two texts of a form are alike; each boot has status 0
+pub texts_alike : (files : Files) (form : Form) (s u : ℕ) (t v : List ℕ) → IsText (Some files) form s t → IsText (Some files) form u v → AreAlike s u t v
+texts_alike files (Show name) s u t v a b = let same = text_one files (Show name) s u t v tt a b in (same.0, λ n. same.1)
+texts_alike files (Audit name) s u t v a b = let same = text_one files (Audit name) s u t v tt a b in (same.0, λ n. same.1)
+texts_alike files (Canon name) s u t v a b = let same = text_one files (Canon name) s u t v tt a b in (same.0, λ n. same.1)
+texts_alike files (Raise name) s u t v a b = let same = text_one files (Raise name) s u t v tt a b in (same.0, λ n. same.1)
+texts_alike files (Madt name elcr) s u t v a b = let same = text_one files (Madt name elcr) s u t v tt a b in (same.0, λ n. same.1)
+texts_alike files (Pirmake name) s u t v a b = let same = text_one files (Pirmake name) s u t v tt a b in (same.0, λ n. same.1)
+texts_alike files (Build name) s u t v a b = let same = text_one files (Build name) s u t v tt a b in (same.0, λ n. same.1)
+texts_alike files (Route name elcr) s u t v a b = let same = text_one files (Route name elcr) s u t v tt a b in (same.0, λ n. same.1)
+texts_alike files (Trace image script) s u t v a b = let same = text_one files (Trace image script) s u t v tt a b in (same.0, λ n. same.1)
+texts_alike files (Boot image script) s u t v a b =
+    board_one files image script _ _ (AreAlike s u t v) (λ tables x p q. (p.0 ∙ sym q.0, λ n. absurd (n p.0))) a b
+texts_alike files (Replay image script report) s u t v a b = let same = text_one files (Replay image script report) s u t v tt a b in (same.0, λ n. same.1)
+texts_alike files (Madtcmp name elcr madt) s u t v a b = let same = text_one files (Madtcmp name elcr madt) s u t v tt a b in (same.0, λ n. same.1)
+texts_alike files (Pircmp name table) s u t v a b = let same = text_one files (Pircmp name table) s u t v tt a b in (same.0, λ n. same.1)
+texts_alike files (Pic image script calls) s u t v a b = let same = text_one files (Pic image script calls) s u t v tt a b in (same.0, λ n. same.1)
+texts_alike files (Drill n) s u t v a b = let same = text_one files (Drill n) s u t v tt a b in (same.0, λ m. same.1)
 
+-- a script that is understood describes a board with the tables of its image
+with_board : (files : Files) (image script : List ℕ) (P : Tables → AScript → Type 0) → AreBytesTold files → (u : IsUnderstood (Some files) (Script image script)) → P u.0 u.3 → WithBoard (Some files) image script P
+with_board files image script P bytes u p = let good = image_good files image u.0 bytes u.2 in (u.0, good.0, good.1, u.2, (u.3, u.4, u.5, p))
+
+-- where its files are understood a form has a text
 pub text_given : (files : Files) (form : Form) → AreBytesTold files → AllByRecursion (IsUnderstood (Some files)) (files_of form) → (s : ℕ) × (t : List ℕ) × IsText (Some files) form s t
-text_given files form bytes all =
-    let source = source_gives files form all.0 in
-    let good = gives_good files (source_of form) source.0 bytes source.1 in
-    let answer = answer_by_some files form source.0 bytes source.1 all in
-    (answer.0, answer.1, (source.0, good.0, good.1, source.1, answer.2))
-
--- the first byte of the first word tells the forms apart
-first_byte : List (List ℕ) → ℕ
-first_byte [] = 0
-first_byte ([] ∷ words) = 0
-first_byte ((b ∷ bs) ∷ words) = b
-
-abbrev byte_of : Form → ℕ
-byte_of (Show i) = 115
-byte_of (Audit i) = 97
-byte_of (Canon i) = 99
-byte_of (Build i) = 98
-byte_of (Route i n) = 114
-byte_of (Trace i j) = 116
-byte_of (Boot i j) = 98
-
-first_byte_of : (form : Form) (words : List (List ℕ)) → IsForm form words → first_byte words ≡ byte_of form
-unfolding first_byte
-first_byte_of (Show i) words e = ap first_byte e
-first_byte_of (Audit i) words e = ap first_byte e
-first_byte_of (Canon i) words e = ap first_byte e
-first_byte_of (Build i) words e = ap first_byte e
-first_byte_of (Route i n) words e = ap first_byte e.1
-first_byte_of (Trace i j) words e = ap first_byte e
-first_byte_of (Boot i j) words e = ap first_byte e
-
--- how many words a form has
-abbrev words_in : Form → ℕ
-words_in (Show i) = 2
-words_in (Audit i) = 2
-words_in (Canon i) = 2
-words_in (Build i) = 2
-words_in (Route i n) = 3
-words_in (Trace i j) = 3
-words_in (Boot i j) = 3
-
-word_count : (form : Form) (words : List (List ℕ)) → IsForm form words → length words ≡ words_in form
-word_count (Show i) words e = ap length e
-word_count (Audit i) words e = ap length e
-word_count (Canon i) words e = ap length e
-word_count (Build i) words e = ap length e
-word_count (Route i n) words e = ap length e.1
-word_count (Trace i j) words e = ap length e
-word_count (Boot i j) words e = ap length e
-
-few_or_three : (form : Form) → (2 ≤ words_in form) × (words_in form ≤ 3)
-few_or_three (Show i) = (omega arith, omega arith)
-few_or_three (Audit i) = (omega arith, omega arith)
-few_or_three (Canon i) = (omega arith, omega arith)
-few_or_three (Build i) = (omega arith, omega arith)
-few_or_three (Route i n) = (omega arith, omega arith)
-few_or_three (Trace i j) = (omega arith, omega arith)
-few_or_three (Boot i j) = (omega arith, omega arith)
-
-pub same_form : (form other : Form) (words : List (List ℕ)) → IsForm form words → IsForm other words → form ≡ other
-same_form (Show i) (Show j) words a b = let both : codes "show" ∷ i ∷ [] ≡ codes "show" ∷ j ∷ [] = sym a ∙ b in let same : i ≡ j = cc in ap Show same
-same_form (Audit i) (Audit j) words a b = let both : codes "audit" ∷ i ∷ [] ≡ codes "audit" ∷ j ∷ [] = sym a ∙ b in let same : i ≡ j = cc in ap Audit same
-same_form (Canon i) (Canon j) words a b = let both : codes "canon" ∷ i ∷ [] ≡ codes "canon" ∷ j ∷ [] = sym a ∙ b in let same : i ≡ j = cc in ap Canon same
-same_form (Build i) (Build j) words a b = let both : codes "build" ∷ i ∷ [] ≡ codes "build" ∷ j ∷ [] = sym a ∙ b in let same : i ≡ j = cc in ap Build same
-same_form (Route i n) (Route j m) words a b =
-    let both : codes "route" ∷ i ∷ a.0 ∷ [] ≡ codes "route" ∷ j ∷ b.0 ∷ [] = sym a.1 ∙ b.1 in
-    let same : i ≡ j = cc in
-    let word : a.0 ≡ b.0 = cc in
-    let numbers : Some n ≡ Some m = sym a.2 ∙ ap elcr_of word ∙ b.2 in
-    let number : n ≡ m = cc in
-    rw (same, number) refl
-same_form (Trace i n) (Trace j m) words a b = let both : codes "trace" ∷ i ∷ n ∷ [] ≡ codes "trace" ∷ j ∷ m ∷ [] = sym a ∙ b in let first : i ≡ j = cc in let second : n ≡ m = cc in rw (first, second) refl
-same_form (Boot i n) (Boot j m) words a b = let both : codes "boot" ∷ i ∷ n ∷ [] ≡ codes "boot" ∷ j ∷ m ∷ [] = sym a ∙ b in let first : i ≡ j = cc in let second : n ≡ m = cc in rw (first, second) refl
-same_form (Show i) (Audit j) words a b = let e = sym (first_byte_of (Show i) words a) ∙ first_byte_of (Audit j) words b in absurd (omega (arith, e))
-same_form (Show i) (Canon j) words a b = let e = sym (first_byte_of (Show i) words a) ∙ first_byte_of (Canon j) words b in absurd (omega (arith, e))
-same_form (Show i) (Build j) words a b = let e = sym (first_byte_of (Show i) words a) ∙ first_byte_of (Build j) words b in absurd (omega (arith, e))
-same_form (Show i) (Route j m) words a b = let e = sym (first_byte_of (Show i) words a) ∙ first_byte_of (Route j m) words b in absurd (omega (arith, e))
-same_form (Show i) (Trace j m) words a b = let e = sym (first_byte_of (Show i) words a) ∙ first_byte_of (Trace j m) words b in absurd (omega (arith, e))
-same_form (Show i) (Boot j m) words a b = let e = sym (first_byte_of (Show i) words a) ∙ first_byte_of (Boot j m) words b in absurd (omega (arith, e))
-same_form (Audit i) (Show j) words a b = let e = sym (first_byte_of (Audit i) words a) ∙ first_byte_of (Show j) words b in absurd (omega (arith, e))
-same_form (Audit i) (Canon j) words a b = let e = sym (first_byte_of (Audit i) words a) ∙ first_byte_of (Canon j) words b in absurd (omega (arith, e))
-same_form (Audit i) (Build j) words a b = let e = sym (first_byte_of (Audit i) words a) ∙ first_byte_of (Build j) words b in absurd (omega (arith, e))
-same_form (Audit i) (Route j m) words a b = let e = sym (first_byte_of (Audit i) words a) ∙ first_byte_of (Route j m) words b in absurd (omega (arith, e))
-same_form (Audit i) (Trace j m) words a b = let e = sym (first_byte_of (Audit i) words a) ∙ first_byte_of (Trace j m) words b in absurd (omega (arith, e))
-same_form (Audit i) (Boot j m) words a b = let e = sym (first_byte_of (Audit i) words a) ∙ first_byte_of (Boot j m) words b in absurd (omega (arith, e))
-same_form (Canon i) (Show j) words a b = let e = sym (first_byte_of (Canon i) words a) ∙ first_byte_of (Show j) words b in absurd (omega (arith, e))
-same_form (Canon i) (Audit j) words a b = let e = sym (first_byte_of (Canon i) words a) ∙ first_byte_of (Audit j) words b in absurd (omega (arith, e))
-same_form (Canon i) (Build j) words a b = let e = sym (first_byte_of (Canon i) words a) ∙ first_byte_of (Build j) words b in absurd (omega (arith, e))
-same_form (Canon i) (Route j m) words a b = let e = sym (first_byte_of (Canon i) words a) ∙ first_byte_of (Route j m) words b in absurd (omega (arith, e))
-same_form (Canon i) (Trace j m) words a b = let e = sym (first_byte_of (Canon i) words a) ∙ first_byte_of (Trace j m) words b in absurd (omega (arith, e))
-same_form (Canon i) (Boot j m) words a b = let e = sym (first_byte_of (Canon i) words a) ∙ first_byte_of (Boot j m) words b in absurd (omega (arith, e))
-same_form (Build i) (Show j) words a b = let e = sym (first_byte_of (Build i) words a) ∙ first_byte_of (Show j) words b in absurd (omega (arith, e))
-same_form (Build i) (Audit j) words a b = let e = sym (first_byte_of (Build i) words a) ∙ first_byte_of (Audit j) words b in absurd (omega (arith, e))
-same_form (Build i) (Canon j) words a b = let e = sym (first_byte_of (Build i) words a) ∙ first_byte_of (Canon j) words b in absurd (omega (arith, e))
-same_form (Build i) (Route j m) words a b = let e = sym (first_byte_of (Build i) words a) ∙ first_byte_of (Route j m) words b in absurd (omega (arith, e))
-same_form (Build i) (Trace j m) words a b = let e = sym (first_byte_of (Build i) words a) ∙ first_byte_of (Trace j m) words b in absurd (omega (arith, e))
-same_form (Build i) (Boot j m) words a b = let e = sym (word_count (Build i) words a) ∙ word_count (Boot j m) words b in absurd (omega (arith, e))
-same_form (Route i n) (Show j) words a b = let e = sym (first_byte_of (Route i n) words a) ∙ first_byte_of (Show j) words b in absurd (omega (arith, e))
-same_form (Route i n) (Audit j) words a b = let e = sym (first_byte_of (Route i n) words a) ∙ first_byte_of (Audit j) words b in absurd (omega (arith, e))
-same_form (Route i n) (Canon j) words a b = let e = sym (first_byte_of (Route i n) words a) ∙ first_byte_of (Canon j) words b in absurd (omega (arith, e))
-same_form (Route i n) (Build j) words a b = let e = sym (first_byte_of (Route i n) words a) ∙ first_byte_of (Build j) words b in absurd (omega (arith, e))
-same_form (Route i n) (Trace j m) words a b = let e = sym (first_byte_of (Route i n) words a) ∙ first_byte_of (Trace j m) words b in absurd (omega (arith, e))
-same_form (Route i n) (Boot j m) words a b = let e = sym (first_byte_of (Route i n) words a) ∙ first_byte_of (Boot j m) words b in absurd (omega (arith, e))
-same_form (Trace i n) (Show j) words a b = let e = sym (first_byte_of (Trace i n) words a) ∙ first_byte_of (Show j) words b in absurd (omega (arith, e))
-same_form (Trace i n) (Audit j) words a b = let e = sym (first_byte_of (Trace i n) words a) ∙ first_byte_of (Audit j) words b in absurd (omega (arith, e))
-same_form (Trace i n) (Canon j) words a b = let e = sym (first_byte_of (Trace i n) words a) ∙ first_byte_of (Canon j) words b in absurd (omega (arith, e))
-same_form (Trace i n) (Build j) words a b = let e = sym (first_byte_of (Trace i n) words a) ∙ first_byte_of (Build j) words b in absurd (omega (arith, e))
-same_form (Trace i n) (Route j m) words a b = let e = sym (first_byte_of (Trace i n) words a) ∙ first_byte_of (Route j m) words b in absurd (omega (arith, e))
-same_form (Trace i n) (Boot j m) words a b = let e = sym (first_byte_of (Trace i n) words a) ∙ first_byte_of (Boot j m) words b in absurd (omega (arith, e))
-same_form (Boot i n) (Show j) words a b = let e = sym (first_byte_of (Boot i n) words a) ∙ first_byte_of (Show j) words b in absurd (omega (arith, e))
-same_form (Boot i n) (Audit j) words a b = let e = sym (first_byte_of (Boot i n) words a) ∙ first_byte_of (Audit j) words b in absurd (omega (arith, e))
-same_form (Boot i n) (Canon j) words a b = let e = sym (first_byte_of (Boot i n) words a) ∙ first_byte_of (Canon j) words b in absurd (omega (arith, e))
-same_form (Boot i n) (Build j) words a b = let e = sym (word_count (Boot i n) words a) ∙ word_count (Build j) words b in absurd (omega (arith, e))
-same_form (Boot i n) (Route j m) words a b = let e = sym (first_byte_of (Boot i n) words a) ∙ first_byte_of (Route j m) words b in absurd (omega (arith, e))
-same_form (Boot i n) (Trace j m) words a b = let e = sym (first_byte_of (Boot i n) words a) ∙ first_byte_of (Trace j m) words b in absurd (omega (arith, e))
-
-abbrev IsJudged : List (List ℕ) → Type 0
-IsJudged words = ((form : Form) × IsForm form words) ⊎ ((form : Form) → ¬ IsForm form words)
-
--- words of two: a command and a file
-two_judged : (word first : List ℕ) → Decided (word ≡ codes "show") → Decided (word ≡ codes "audit") → Decided (word ≡ codes "canon") → Decided (word ≡ codes "build") → IsJudged (word ∷ first ∷ [])
-two_judged word first (inl e) a c b = inl (Show first, ap (λ (w : List ℕ). w ∷ first ∷ []) e)
-two_judged word first (inr s) (inl e) c b = inl (Audit first, ap (λ (w : List ℕ). w ∷ first ∷ []) e)
-two_judged word first (inr s) (inr a) (inl e) b = inl (Canon first, ap (λ (w : List ℕ). w ∷ first ∷ []) e)
-two_judged word first (inr s) (inr a) (inr c) (inl e) = inl (Build first, ap (λ (w : List ℕ). w ∷ first ∷ []) e)
-two_judged word first (inr s) (inr a) (inr c) (inr b) = inr not_form
+text_given files (Show name) bytes all = (0, listing_of (all.0).0, let good = image_good files name (all.0).0 bytes (all.0).1 in ((all.0).0, good.0, good.1, (all.0).1, (refl, refl)))
+text_given files (Audit name) bytes all =
+    let good = image_good files name (all.0).0 bytes (all.0).1 in
+    let found = findings-some (all.0).0 in
+    (status_of found.0, findings_text found.0, ((all.0).0, good.0, good.1, (all.0).1, (found.0, found.1, refl, refl)))
+text_given files (Canon name) bytes all = by_fit (fits_decided tables)
   where
-    not_form : (form : Form) → ¬ IsForm form (word ∷ first ∷ [])
-    not_form (Show i) e = s cc
-    not_form (Audit i) e = a cc
-    not_form (Canon i) e = c cc
-    not_form (Build i) e = b cc
-    not_form (Route i n) is = let count = word_count (Route i n) (word ∷ first ∷ []) is in omega (arith, count)
-    not_form (Trace i n) is = let count = word_count (Trace i n) (word ∷ first ∷ []) is in omega (arith, count)
-    not_form (Boot i n) is = let count = word_count (Boot i n) (word ∷ first ∷ []) is in omega (arith, count)
+    tables : Tables
+    tables = (all.0).0
 
--- words of three: a command, a file and a word or a second file
-three_judged : (word first third : List ℕ) (n : Option ℕ) → elcr_of third ≡ n → Decided (word ≡ codes "route") → Decided (word ≡ codes "trace") → Decided (word ≡ codes "boot") → IsJudged (word ∷ first ∷ third ∷ [])
-three_judged word first third (Some n) is (inl e) t b = inl (Route first n, (third, ap (λ (w : List ℕ). w ∷ first ∷ third ∷ []) e, is))
-three_judged word first third None is (inl e) t b = inr not_form
+    given : (s : ℕ) (t : List ℕ) → IsMadeCanonical tables s t → IsText (Some files) (Canon name) s t
+    given s t h = let good = image_good files name tables bytes (all.0).1 in (tables, good.0, good.1, (all.0).1, h)
+
+    by_fit : Decided (FitsInImage tables) → (s : ℕ) × (t : List ℕ) × IsText (Some files) (Canon name) s t
+    by_fit (inl fitting) = (0, image_of (canonical_of tables), given 0 (image_of (canonical_of tables)) (inl (refl, fitting, refl)))
+    by_fit (inr unfit) = (8, unfit_line (block_size tables.body), given 8 (unfit_line (block_size tables.body)) (inr (refl, unfit, refl)))
+text_given files (Raise name) bytes all = by_fit (fits_decided tables)
   where
-    not_form : (form : Form) → ¬ IsForm form (word ∷ first ∷ third ∷ [])
-    not_form (Show i) is = let count = word_count (Show i) (word ∷ first ∷ third ∷ []) is in omega (arith, count)
-    not_form (Audit i) is = let count = word_count (Audit i) (word ∷ first ∷ third ∷ []) is in omega (arith, count)
-    not_form (Canon i) is = let count = word_count (Canon i) (word ∷ first ∷ third ∷ []) is in omega (arith, count)
-    not_form (Build i) is = let count = word_count (Build i) (word ∷ first ∷ third ∷ []) is in omega (arith, count)
-    not_form (Route i n) (w, e, some) = let same : third ≡ w = cc in let both : None ≡ Some n = sym is ∙ ap elcr_of same ∙ some in cc
-    not_form (Trace i n) is' = let other : word ≡ codes "trace" = cc in let bytes : 114 ≡ 116 = ap (λ (l : List ℕ). get_or l 0 0) (sym e ∙ other) in absurd (omega (arith, bytes))
-    not_form (Boot i n) is' = let other : word ≡ codes "boot" = cc in let bytes : 114 ≡ 98 = ap (λ (l : List ℕ). get_or l 0 0) (sym e ∙ other) in absurd (omega (arith, bytes))
-three_judged word first third n is (inr r) (inl e) b = inl (Trace first third, ap (λ (w : List ℕ). w ∷ first ∷ third ∷ []) e)
-three_judged word first third n is (inr r) (inr t) (inl e) = inl (Boot first third, ap (λ (w : List ℕ). w ∷ first ∷ third ∷ []) e)
-three_judged word first third n is (inr r) (inr t) (inr b) = inr not_form
-  where
-    not_form : (form : Form) → ¬ IsForm form (word ∷ first ∷ third ∷ [])
-    not_form (Show i) is = let count = word_count (Show i) (word ∷ first ∷ third ∷ []) is in omega (arith, count)
-    not_form (Audit i) is = let count = word_count (Audit i) (word ∷ first ∷ third ∷ []) is in omega (arith, count)
-    not_form (Canon i) is = let count = word_count (Canon i) (word ∷ first ∷ third ∷ []) is in omega (arith, count)
-    not_form (Build i) is = let count = word_count (Build i) (word ∷ first ∷ third ∷ []) is in omega (arith, count)
-    not_form (Route i m) (w, e, some) = r cc
-    not_form (Trace i n) e = t cc
-    not_form (Boot i n) e = b cc
+    tables : Tables
+    tables = (all.0).0
 
-pub form_judged : (words : List (List ℕ)) → IsJudged words
-form_judged [] = inr (λ form is. let count = word_count form [] is in let some = few_or_three form in omega (arith, count, some.0))
-form_judged (x ∷ []) = inr (λ form is. let count = word_count form (x ∷ []) is in let some = few_or_three form in omega (arith, count, some.0))
-form_judged (x ∷ y ∷ []) = two_judged x y (decided-list x (codes "show")) (decided-list x (codes "audit")) (decided-list x (codes "canon")) (decided-list x (codes "build"))
-form_judged (x ∷ y ∷ z ∷ []) = three_judged x y z (elcr_of z) refl (decided-list x (codes "route")) (decided-list x (codes "trace")) (decided-list x (codes "boot"))
-form_judged (x ∷ y ∷ z ∷ w ∷ ws) = inr (λ form is. let count = word_count form (x ∷ y ∷ z ∷ w ∷ ws) is in let some = few_or_three form in omega (arith, count, some.1))
+    given : (s : ℕ) (t : List ℕ) → IsRaised tables s t → IsText (Some files) (Raise name) s t
+    given s t h = let good = image_good files name tables bytes (all.0).1 in (tables, good.0, good.1, (all.0).1, h)
 
+    by_fit : Decided (FitsInImage tables) → (s : ℕ) × (t : List ℕ) × IsText (Some files) (Raise name) s t
+    by_fit (inl fitting) = (0, image_of (raised_of tables), given 0 (image_of (raised_of tables)) (inl (refl, fitting, refl)))
+    by_fit (inr unfit) = (8, unfit_line (block_size tables.body), given 8 (unfit_line (block_size tables.body)) (inr (refl, unfit, refl)))
+text_given files (Madt name elcr) bytes all =
+    let tables = (all.0).0 in
+    let good = image_good files name tables bytes (all.0).1 in
+    let made = madt_made_some elcr tables (image_values files name tables bytes (all.0).1) good.0 in
+    (made.0, made.1, (tables, good.0, good.1, (all.0).1, made.2))
+text_given files (Pirmake name) bytes all =
+    let tables = (all.0).0 in
+    let good = image_good files name tables bytes (all.0).1 in
+    let made = pir_made_some tables (image_values files name tables bytes (all.0).1) in
+    (made.0, made.1, (tables, good.0, good.1, (all.0).1, made.2))
+text_given files (Build name) bytes all = (0, image_of (all.0).0, let good = listing_good files name (all.0).0 (all.0).1 in ((all.0).0, good.0, good.1, (all.0).1, (refl, refl)))
+text_given files (Route name elcr) bytes all = (0, routes_text (routes_of (platform_of (all.0).0) elcr), let good = image_good files name (all.0).0 bytes (all.0).1 in ((all.0).0, good.0, good.1, (all.0).1, (refl, refl)))
+text_given files (Trace image script) bytes all =
+    let u = all.1.0 in
+    let t = trace_some u.0 u.3 (image_values files image u.0 bytes u.2) u.4.0 u.5 in
+    (0, t.0, with_board files image script (λ tables s. IsTraced tables s 0 t.0) bytes u (refl, t.1))
+text_given files (Boot image script) bytes all =
+    let u = all.1.0 in
+    let t = boot_some u.0 u.3 (image_values files image u.0 bytes u.2) u.4.0 u.5 in
+    (0, t.0, with_board files image script (λ tables s. IsBooted tables s 0 t.0) bytes u (refl, t.1))
+text_given files (Replay image script report) bytes all =
+    let u = all.1.0 in
+    let r = all.1.1.0 in
+    let v = some_verdict (board_of u.0 u.3) r.0 (board_config u.0 u.3 (image_values files image u.0 bytes u.2) u.4.0 u.5) in
+    (verdict_status v.0, verdict_line v.0, with_board files image script (λ tables s. (q : AReport) × ReportGives (Some files) report q × IsJudged (board_of tables s) q (verdict_status v.0) (verdict_line v.0)) bytes u (r.0, r.1, (v.0, v.1, refl, refl)))
+text_given files (Madtcmp name elcr madt) bytes all =
+    let tables = (all.0).0 in
+    let good = image_good files name tables bytes (all.0).1 in
+    let m = all.1.0 in
+    let found = line_differences_of (platform_of tables) (routes_of (platform_of tables) elcr) m.0 in
+    (status_of found, line_differences_text found, (tables, good.0, good.1, (all.0).1, (m.0, m.1, (refl, refl))))
+text_given files (Pircmp name table) bytes all =
+    let tables = (all.0).0 in
+    let good = image_good files name tables bytes (all.0).1 in
+    let r = all.1.0 in
+    let compared = pir_compared_some tables r.0 in
+    (compared.0, compared.1, (tables, good.0, good.1, (all.0).1, (r.0, r.1, compared.2)))
+text_given files (Pic image script calls) bytes all =
+    let u = all.1.0 in
+    let c = all.1.1.0 in
+    let t = played_some (board_of u.0 u.3) (platform_of u.0) c.0 (trace_some u.0 u.3 (image_values files image u.0 bytes u.2) u.4.0 u.5) in
+    (0, t.0, with_board files image script (λ tables s. (ops : List PicOp) × CallsGive (Some files) calls ops × IsPlayed tables s ops 0 t.0) bytes u (c.0, c.1, (refl, t.1)))
+text_given files (Drill n) bytes all = let t = drill_some n in (0, t.0, (refl, t.1))
+
+-- whether a form needs no threads is decided
 pub still_judged : (form : Form) → Decided (IsStill form)
-still_judged form = inl tt
+still_judged (Show image) = inl tt
+still_judged (Audit image) = inl tt
+still_judged (Canon image) = inl tt
+still_judged (Raise image) = inl tt
+still_judged (Madt image elcr) = inl tt
+still_judged (Pirmake image) = inl tt
+still_judged (Build listing) = inl tt
+still_judged (Route image elcr) = inl tt
+still_judged (Trace image script) = inl tt
+still_judged (Boot image script) = inr (λ h. h)
+still_judged (Drill n) = inl tt
+still_judged (Replay image script report) = inl tt
+still_judged (Madtcmp image elcr madt) = inl tt
+still_judged (Pircmp image table) = inl tt
+still_judged (Pic image script calls) = inl tt

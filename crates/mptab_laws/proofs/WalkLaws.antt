@@ -7,10 +7,11 @@ use Rattle.mpt_base.specs.Outside.{Files}
 use Rattle.mpt_laws.proofs.EntryJudgment.{Decided}
 use Rattle.mptab_calls.specs.Texts.{usage_line, no_file_line, too_large_line}
 use Rattle.mptab_calls.specs.Forms.{Form, Named, IsForm, files_of, name_of, limit_of}
-use Rattle.mptab_calls.specs.Commands.{IsUnderstood, IsRefused}
+use Rattle.mptab_calls.specs.Commands.{IsUnderstood, IsRefused, IsText}
 use Rattle.mptab_calls.specs.Walk.{IsAnswer, IsAnswerOf, EndsAt, Reaches}
-use Rattle.mptab_laws.specs.Laws.{AreBytesTold, HasOneText}
-use Rattle.mptab_laws.proofs.Rows.{refused_read, understood_read, refused_not_understood, refused_one, file_judged, text_one, text_given, same_form, form_judged, IsRead-bytes, IsReady, AreReady, form_ready}
+use Rattle.mptab_calls.proofs.FormReading.{same_form, form_judged}
+use Rattle.mptab_laws.specs.Laws.{AreBytesTold, HasOneText, AreAlike}
+use Rattle.mptab_laws.proofs.Rows.{refused_read, understood_read, refused_not_understood, refused_one, file_judged, text_one, texts_alike, text_given, IsRead-bytes, IsReady, AreReady, form_ready}
 
 -- ---- one
 
@@ -63,19 +64,27 @@ end_not_all files [] f s t r e all = absurd r
 end_not_all files (h ∷ hs) f s t (inl a) e all = ends_not_understood files h s t (subst (λ (x : Named). EndsAt (Some files) x s t) (sym a) e) all.0
 end_not_all files (h ∷ hs) f s t (inr a) e all = end_not_all files hs f s t a.1 e all.1
 
-form_one : (files : Files) (form : Form) (s u : ℕ) (t v : List ℕ) → HasOneText form → IsAnswerOf (Some files) form s t → IsAnswerOf (Some files) form u v → (s ≡ u) × (t ≡ v)
-form_one files form s u t v one (inl a) (inl b) = end_is_one files (files_of form) a.0 b.0 s u t v a.1 a.2 b.1 b.2
-form_one files form s u t v one (inl a) (inr b) = absurd (end_not_all files (files_of form) a.0 s t a.1 a.2 b.0)
-form_one files form s u t v one (inr a) (inl b) = absurd (end_not_all files (files_of form) b.0 u v b.1 b.2 a.0)
-form_one files form s u t v one (inr a) (inr b) = text_one files form s u t v one a.1 b.1
+-- what two ends at one file, and two texts of one form, have in common, two answers have
+module _ (R : Type 0) (s u : ℕ) (t v : List ℕ) (same : (s ≡ u) × (t ≡ v) → R) where
+  form_by : (files : Files) (form : Form) → (IsText (Some files) form s t → IsText (Some files) form u v → R) → IsAnswerOf (Some files) form s t → IsAnswerOf (Some files) form u v → R
+  form_by files form texts (inl a) (inl b) = same (end_is_one files (files_of form) a.0 b.0 s u t v a.1 a.2 b.1 b.2)
+  form_by files form texts (inl a) (inr b) = absurd (end_not_all files (files_of form) a.0 s t a.1 a.2 b.0)
+  form_by files form texts (inr a) (inl b) = absurd (end_not_all files (files_of form) b.0 u v b.1 b.2 a.0)
+  form_by files form texts (inr a) (inr b) = texts a.1 b.1
+
+  answer_by : (listed : Form → Type 0) (files : Files) (words : List (List ℕ)) → ((form : Form) → listed form → IsForm form words → IsText (Some files) form s t → IsText (Some files) form u v → R) → IsAnswer listed (Some files) words s t → IsAnswer listed (Some files) words u v → R
+  answer_by listed files words texts (inl a) (inl b) = same (a.1 ∙ sym b.1, a.2 ∙ sym b.2)
+  answer_by listed files words texts (inl a) (inr (form, l, is, b)) = absurd (a.0 form l is)
+  answer_by listed files words texts (inr (form, l, is, a)) (inl b) = absurd (b.0 form l is)
+  answer_by listed files words texts (inr (form, l, is, a)) (inr (other, l', is', b)) =
+      let one : form ≡ other = same_form form other words is is' in
+      form_by files form (texts form l is) a (subst (λ (x : Form). IsAnswerOf (Some files) x u v) (sym one) b)
 
 pub answer_one : (listed : Form → Type 0) (files : Files) (words : List (List ℕ)) (s u : ℕ) (t v : List ℕ) → ((form : Form) → listed form → IsForm form words → HasOneText form) → IsAnswer listed (Some files) words s t → IsAnswer listed (Some files) words u v → (s ≡ u) × (t ≡ v)
-answer_one listed files words s u t v one (inl a) (inl b) = (a.1 ∙ sym b.1, a.2 ∙ sym b.2)
-answer_one listed files words s u t v one (inl a) (inr (form, l, is, b)) = absurd (a.0 form l is)
-answer_one listed files words s u t v one (inr (form, l, is, a)) (inl b) = absurd (b.0 form l is)
-answer_one listed files words s u t v one (inr (form, l, is, a)) (inr (other, l', is', b)) =
-    let same : form ≡ other = same_form form other words is is' in
-    form_one files form s u t v (one form l is) a (subst (λ (x : Form). IsAnswerOf (Some files) x u v) (sym same) b)
+answer_one listed files words s u t v one a b = answer_by ((s ≡ u) × (t ≡ v)) s u t v (λ same. same) listed files words (λ form l is. text_one files form s u t v (one form l is)) a b
+
+pub answers_alike : (listed : Form → Type 0) (files : Files) (words : List (List ℕ)) (s u : ℕ) (t v : List ℕ) → IsAnswer listed (Some files) words s t → IsAnswer listed (Some files) words u v → AreAlike s u t v
+answers_alike listed files words s u t v a b = answer_by (AreAlike s u t v) s u t v (λ same. (same.0, λ n. same.1)) listed files words (λ form l is. texts_alike files form s u t v) a b
 
 -- ---- some
 

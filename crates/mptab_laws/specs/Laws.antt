@@ -2,10 +2,11 @@
 --     AreBytesTold files      each file is a list of bytes
 --     HasOneText form         its text is one
 --     HaveOneText words       so it is of the form of these words
-use Rattle.std.specs.Prelude.{ℕ, List, IfSome, ⊤}
+--     AreAlike s u t v        two answers have one status, and, where it isn't 0, one text
+use Rattle.std.specs.Prelude.{◌≡◌, ◌≢◌, ℕ, List, IfSome, ⊤}
 use Rattle.mpt_base.specs.Outside.{Files}
 use Rattle.mpt_base.specs.Bytes.{IsByteList}
-use Rattle.mptab_calls.specs.Forms.{Form, Boot, IsForm}
+use Rattle.mptab_calls.specs.Forms.{Form, Show, Audit, Canon, Raise, Madt, Pirmake, Build, Route, Trace, Boot, Drill, Replay, Madtcmp, Pircmp, Pic, IsForm}
 
 -- each file is a list of bytes
 abbrev pub AreBytesTold : Files → Type 0
@@ -13,9 +14,26 @@ AreBytesTold files = (name : List ℕ) → IfSome (files name) IsByteList
 
 -- the form's text is one; a board may have many boots
 abbrev pub HasOneText : Form → Type 0
+HasOneText (Show image) = ⊤
+HasOneText (Audit image) = ⊤
+HasOneText (Canon image) = ⊤
+HasOneText (Raise image) = ⊤
+HasOneText (Madt image elcr) = ⊤
+HasOneText (Pirmake image) = ⊤
+HasOneText (Build listing) = ⊤
+HasOneText (Route image elcr) = ⊤
+HasOneText (Trace image script) = ⊤
 HasOneText (Boot image script) = ⊥
-HasOneText form = ⊤
+HasOneText (Drill n) = ⊤
+HasOneText (Replay image script report) = ⊤
+HasOneText (Madtcmp image elcr madt) = ⊤
+HasOneText (Pircmp image table) = ⊤
+HasOneText (Pic image script calls) = ⊤
 
 -- words of a form whose text is one, or of none
 abbrev pub HaveOneText : List (List ℕ) → Type 0
 HaveOneText words = (form : Form) → IsForm form words → HasOneText form
+
+-- two answers with these statuses and texts have one status, and, where it isn't 0, one text
+abbrev pub AreAlike : ℕ → ℕ → List ℕ → List ℕ → Type 0
+AreAlike s u t v = (s ≡ u) × (s ≢ 0 → t ≡ v)

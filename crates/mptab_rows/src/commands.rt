@@ -48,13 +48,13 @@ fn shelf_of(alloc: Global, name: &str, bytes: &[u8]) -> Result<MemShelf, Fail> {
 }
 
 /// What `build` answers to a listing.
-fn built(alloc: Global, listing: &[u8]) -> Result<Answer, Fail> {
+pub(crate) fn built(alloc: Global, listing: &[u8]) -> Result<Answer, Fail> {
     let mut shelf = shelf_of(alloc, "list", listing)?;
     answer_to(alloc, &["build", "list"], &mut shelf, 0)
 }
 
 /// What these words answer, where this image is there.
-fn of_image(alloc: Global, words: &[&str], image: &[u8]) -> Result<Answer, Fail> {
+pub(crate) fn of_image(alloc: Global, words: &[&str], image: &[u8]) -> Result<Answer, Fail> {
     let mut shelf = shelf_of(alloc, "image", image)?;
     answer_to(alloc, words, &mut shelf, 0)
 }
@@ -218,6 +218,7 @@ const NO_FORMS: &[&[&str]] = &[
     &["route", "image", "0x00"],
     &["audit", "image", "0000"],
     &["canon"],
+    &["raise"],
     &["build"],
     &["Route", "image", "0000"],
 ];

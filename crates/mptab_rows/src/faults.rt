@@ -11,20 +11,20 @@ const AT: Piece = Piece::Table(0x510);
 
 const REASONS: &[Row] = &[
     Row {
-        name: "the pointer's revision is 1",
+        name: "the pointer's revision is 2",
         size: SMALL,
         pieces: &[
             WORD,
-            Piece::Bytes(0x500, 16, 0x5F4D505F_10050000_01018E00_00000000),
+            Piece::Bytes(0x500, 16, 0x5F4D505F_10050000_01028D00_00000000),
             AT,
         ],
         status: 7,
         text: "mptab: fault 1 BadRevision at 00000509\n",
     },
     Row {
-        name: "the table's revision is 1",
+        name: "the table's revision is 2",
         size: SMALL,
-        pieces: &[WORD, POINTER, AT, Piece::Bytes(0x516, 1, 0x01)],
+        pieces: &[WORD, POINTER, AT, Piece::Bytes(0x516, 1, 0x02)],
         status: 7,
         text: "mptab: fault 1 BadRevision at 00000516\n",
     },
@@ -262,7 +262,7 @@ const PAIRS: &[Row] = &[
         size: SMALL,
         pieces: &[
             WORD,
-            Piece::Bytes(0x500, 16, 0x5F4D505F_10050000_01018608_00000000),
+            Piece::Bytes(0x500, 16, 0x5F4D505F_10050000_01028508_00000000),
             AT,
         ],
         status: 7,
@@ -273,7 +273,7 @@ const PAIRS: &[Row] = &[
         size: SMALL,
         pieces: &[
             WORD,
-            Piece::Bytes(0x500, 16, 0x5F4D505F_00000000_0101A300_00000000),
+            Piece::Bytes(0x500, 16, 0x5F4D505F_00000000_0102A200_00000000),
             AT,
         ],
         status: 7,
@@ -284,7 +284,7 @@ const PAIRS: &[Row] = &[
         size: SMALL,
         pieces: &[
             WORD,
-            Piece::Bytes(0x500, 16, 0x5F4D505F_25050000_01017900_00000000),
+            Piece::Bytes(0x500, 16, 0x5F4D505F_25050000_01027800_00000000),
             AT,
         ],
         status: 7,
@@ -346,7 +346,7 @@ end
         size: SMALL,
         pieces: &[
             WORD,
-            Piece::Bytes(0x500, 16, 0x5F4D505F_50040000_01014F00_00000000),
+            Piece::Bytes(0x500, 16, 0x5F4D505F_50040000_01024E00_00000000),
         ],
         status: 7,
         text: "mptab: fault 1 BadRevision at 00000509\n",
@@ -377,21 +377,21 @@ end
     Row {
         name: "length outside before revision",
         size: SMALL,
-        pieces: &[WORD, POINTER, AT, Piece::Bytes(0x514, 3, 0x410001)],
+        pieces: &[WORD, POINTER, AT, Piece::Bytes(0x514, 3, 0x410002)],
         status: 7,
         text: "mptab: fault 7 LengthOutside at 00000514\n",
     },
     Row {
         name: "short length before revision",
         size: SMALL,
-        pieces: &[WORD, POINTER, AT, Piece::Bytes(0x514, 3, 0x2B0001)],
+        pieces: &[WORD, POINTER, AT, Piece::Bytes(0x514, 3, 0x2B0002)],
         status: 7,
         text: "mptab: fault 6 ShortLength at 00000514\n",
     },
     Row {
         name: "revision before sum",
         size: SMALL,
-        pieces: &[WORD, POINTER, AT, Piece::Bytes(0x516, 2, 0x0100)],
+        pieces: &[WORD, POINTER, AT, Piece::Bytes(0x516, 2, 0x0200)],
         status: 7,
         text: "mptab: fault 1 BadRevision at 00000516\n",
     },

@@ -13,6 +13,8 @@ mod faults;
 #[cfg(test)]
 mod harness;
 #[cfg(test)]
+mod revisions;
+#[cfg(test)]
 mod sizes;
 #[cfg(test)]
 mod tables;

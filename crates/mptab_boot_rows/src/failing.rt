@@ -1,12 +1,15 @@
 //! Words that are no form, files that aren't there, and calls of shelf and sink that fail one by one.
 
 use crate::harness::{
-    Answer, BOTH, IMAGE, NOTHING, ONE, SCRIPT, answer_of, same, script_of, shelf_of, words_of,
+    Answer, BOTH, IMAGE, NOTHING, SCRIPT, answer_of, same, script_of, shelf_of, words_of,
 };
+use crate::pulses::ONE;
 use mpt_base::{MemShelf, MemSink};
 use mptab_calls::run;
 use std::alloc::Global;
+use std::sync::Wait;
 use std::test::Fail;
+use std::thread::Threads;
 
 const USAGE: &str = "mptab: usage\n";
 
@@ -129,7 +132,7 @@ fn bad_image(alloc: Global) -> Result<Vec<u8>, Fail> {
 /// The shelf of these rows.
 fn shelf_of_words(alloc: Global) -> Result<MemShelf, Fail> {
     let bad = bad_image(alloc)?;
-    let mut shelf = shelf_of(alloc, &ONE, b"page = 0x9F\n")?;
+    let mut shelf = shelf_of(alloc, ONE, b"page = 0x9F\n")?;
     shelf.add("bad", bad.as_slice())?;
     Ok(shelf)
 }
@@ -138,7 +141,7 @@ fn shelf_of_words(alloc: Global) -> Result<MemShelf, Fail> {
 fn words(rt: HostRuntime) -> Result<(), Fail> {
     let mut shelf = shelf_of_words(rt.alloc())?;
     for (n, case) in WORDS.iter().enumerate() {
-        let answer = answer_of(rt.alloc(), case.words, &mut shelf, 0)?;
+        let answer = answer_of(&rt, rt.alloc(), case.words, &mut shelf, 0)?;
         assert!(rt; answer.is(case.status, case.text), "row {n}");
     }
     Ok(())
@@ -146,7 +149,7 @@ fn words(rt: HostRuntime) -> Result<(), Fail> {
 
 #[test]
 fn top_call(rt: HostRuntime) -> Result<(), Fail> {
-    let mut shelf = shelf_of(rt.alloc(), &ONE, b"page = 0x9F\n")?;
+    let mut shelf = shelf_of(rt.alloc(), ONE, b"page = 0x9F\n")?;
     let mut sink = MemSink::new(rt.alloc(), 1024)?;
     let words = words_of(rt.alloc(), &["boot", IMAGE, SCRIPT])?;
     let status = run(&rt, rt.alloc(), words.as_slice(), &mut shelf, &mut sink);
@@ -156,11 +159,17 @@ fn top_call(rt: HostRuntime) -> Result<(), Fail> {
 
 /// The answer of a command to one processor that waits 200 times, where a call of the shelf fails and a put of
 /// the sink; 0 is none.
-fn long_answer(alloc: Global, command: &str, call: u64, put: u64) -> Result<Answer, Fail> {
+fn long_answer<R: Threads + Wait + Sync>(
+    rt: &R,
+    alloc: Global,
+    command: &str,
+    call: u64,
+    put: u64,
+) -> Result<Answer, Fail> {
     let script = script_of(alloc, "\"pause 1\",", 200, 0)?;
-    let mut shelf = shelf_of(alloc, &ONE, script.as_slice())?;
+    let mut shelf = shelf_of(alloc, ONE, script.as_slice())?;
     shelf.fail(call)?;
-    answer_of(alloc, &[command, IMAGE, SCRIPT], &mut shelf, put)
+    answer_of(rt, alloc, &[command, IMAGE, SCRIPT], &mut shelf, put)
 }
 
 /// Its report, which is longer than a piece of 4,096 bytes and no longer than two.
@@ -192,9 +201,13 @@ const CALLS: &[(u64, &str)] = &[
 ];
 
 /// The first call of the shelf whose failure has another answer.
-fn first_wrong_call(alloc: Global, command: &str) -> Result<Option<u64>, Fail> {
+fn first_wrong_call<R: Threads + Wait + Sync>(
+    rt: &R,
+    alloc: Global,
+    command: &str,
+) -> Result<Option<u64>, Fail> {
     for (call, line) in CALLS {
-        let answer = long_answer(alloc, command, *call, 0)?;
+        let answer = long_answer(rt, alloc, command, *call, 0)?;
         if !answer.is(4, line) {
             return Ok(Some(*call));
         }
@@ -205,7 +218,7 @@ fn first_wrong_call(alloc: Global, command: &str) -> Result<Option<u64>, Fail> {
 #[test]
 fn calls_of_the_shelf(rt: HostRuntime) -> Result<(), Fail> {
     for command in BOTH {
-        let wrong = first_wrong_call(rt.alloc(), command)?;
+        let wrong = first_wrong_call(&rt, rt.alloc(), command)?;
         same(&rt, command, wrong, None);
     }
     Ok(())
@@ -230,7 +243,7 @@ fn is_cut(answer: &Answer, status: u8, whole: &[u8], most: usize) -> bool {
 fn puts_of_the_sink(rt: HostRuntime) -> Result<(), Fail> {
     let report = long_report(rt.alloc())?;
     for (call, put, status, most) in PUTS {
-        let answer = long_answer(rt.alloc(), "trace", *call, *put)?;
+        let answer = long_answer(&rt, rt.alloc(), "trace", *call, *put)?;
         let holds = is_cut(&answer, *status, report.as_str().as_bytes(), *most);
         assert!(rt; holds, "call {call}, put {put}");
     }
@@ -242,7 +255,7 @@ fn puts_of_the_sink(rt: HostRuntime) -> Result<(), Fail> {
 #[test]
 fn want_of_memory(rt: HostRuntime) -> Result<(), Fail> {
     for (call, put, status) in [(0, 0, 0), (7, 0, 4), (8, 0, 4), (0, 1, 5), (0, 2, 5)] {
-        let answer = long_answer(rt.alloc(), "trace", call, put)?;
+        let answer = long_answer(&rt, rt.alloc(), "trace", call, put)?;
         let refused = answer.is(9, "mptab: no memory\n");
         assert!(rt; refused || answer.status == status, "status {status}");
     }

@@ -1,0 +1,37 @@
+//! What `trace` gives.
+
+ghost use Rattle.std.specs.Prelude.{◌≤◌, ◌+◌, ℕ, List};
+ghost use Rattle.mptab_calls.specs.Forms.{Trace, files_of};
+ghost use Rattle.mptab_calls.specs.Walk.{IsDueOf, IsDelivered, AsksOf, outside};
+
+use crate::board::{refuse_board, take_board};
+use crate::delivery::deliver_text;
+use crate::ending::{Ending, refuse};
+use crate::status::DONE;
+use crate::words::BoardFiles;
+use mpb_boot::trace;
+use mpt_base::{NoMemory, Shelf, Sink};
+use std::alloc::Global;
+
+/// Delivers the report of the round robin of the board that the files describe, and answers the status.
+pub(crate) fn give_of_trace<S: Shelf, O: Sink>(
+    alloc: Global,
+    files: BoardFiles,
+    shelf: &mut S,
+    out: &mut O,
+) -> u8
+    ensures due { (status : ℕ) × (text : List ℕ)
+        × IsDueOf (S.files shelf.old) (outside (S.misses shelf.old) (S.faults shelf.old) (S.asked shelf.old) (O.faults out.old) (O.written out.old))
+        (outside (S.misses shelf.new) (S.faults shelf.new) (S.asked shelf.new) (O.faults out.new) (O.written out.new)) (Trace files.entry.image.now files.entry.script.now) status text
+        × IsDelivered (outside (S.misses shelf.old) (S.faults shelf.old) (S.asked shelf.old) (O.faults out.old) (O.written out.old))
+        (outside (S.misses shelf.new) (S.faults shelf.new) (S.asked shelf.new) (O.faults out.new) (O.written out.new)) result status text }
+    ensures asks { (n : ℕ) × (S.asked shelf.new ≤ S.asked shelf.old + n) × AsksOf (S.files shelf.old) (files_of (Trace files.entry.image.now files.entry.script.now)) n }
+{
+    match take_board(alloc, files, shelf) {
+        Ok(config) => match trace(alloc, config) {
+            Ok(text) => deliver_text(out, DONE, text.as_slice()),
+            Err(NoMemory) => refuse(files.script, Ending::NoMemory, out),
+        },
+        Err(ending) => refuse_board(files, ending, out),
+    }
+}

@@ -1,0 +1,109 @@
+//! Platforms that no table of firmware has room for.
+
+use crate::harness::{Answer, answer_to, built, same};
+use mpt_base::MemShelf;
+use std::alloc::Global;
+use std::test::Fail;
+
+const HEAD: &str = "mptable 1
+pointer at 000F0000 table 00080000 revision 04 features 0000000000
+header revision 04 oem \"MPTAB   \" product \"BOARD       \" oemtable 00000000 oemsize 0000 local FEE00000 reserved 00
+";
+
+/// The answer of a command to the image of a listing that ends with these lines.
+fn of_lines(alloc: Global, command: &[&str], lines: &str) -> Result<Answer, Fail> {
+    let text = format!(in alloc; "{HEAD}{lines}end\n")?;
+    let image = built(alloc, text.as_str().as_bytes())?;
+    let mut shelf = MemShelf::new(alloc);
+    shelf.add("image", image.text.as_slice())?;
+    answer_to(alloc, command, &mut shelf, 0)
+}
+
+/// So many processors.
+fn processors(alloc: Global, count: u32) -> Result<String, Fail> {
+    let mut lines = String::new(alloc);
+    for n in 0..count {
+        let id = n % 256;
+        let line = format!(in alloc;
+            "processor id {id:02X} version 14 flags 01 signature 00000600 features 00000201 reserved 0000000000000000\n"
+        )?;
+        lines.push_str(line.as_str())?;
+    }
+    Ok(lines)
+}
+
+#[test]
+fn many_processors(rt: HostRuntime) -> Result<(), Fail> {
+    let lines = processors(rt.alloc(), 256)?;
+    let many = of_lines(rt.alloc(), &["madt", "image", "0000"], lines.as_str())?;
+    same(
+        &rt,
+        "256 processors",
+        many.is(13, b"mptab: madt many processors 256\n"),
+        true,
+    );
+    Ok(())
+}
+
+/// PCI bus 0, and interrupts of so many of its pins: each has a wire of its own.
+fn wires(alloc: Global, count: u32) -> Result<String, Fail> {
+    let mut lines = String::from_str(
+        alloc,
+        "bus id 00 name \"PCI   \"\nbus id 01 name \"PCI   \"\nbus id 02 name \"PCI   \"\n",
+    )?;
+    for n in 0..count {
+        let bus = n / 128;
+        let irq = n % 128;
+        let pin = n % 256;
+        let dest = n / 256;
+        let line = format!(in alloc;
+            "ioint kind 00 flags 0000 bus {bus:02X} irq {irq:02X} dest {dest:02X} pin {pin:02X}\n"
+        )?;
+        lines.push_str(line.as_str())?;
+    }
+    Ok(lines)
+}
+
+#[test]
+fn many_links(rt: HostRuntime) -> Result<(), Fail> {
+    let lines = wires(rt.alloc(), 256)?;
+    let many = of_lines(rt.alloc(), &["pirmake", "image"], lines.as_str())?;
+    same(
+        &rt,
+        "256 wires",
+        many.is(15, b"mptab: pir many links 256\n"),
+        true,
+    );
+    Ok(())
+}
+
+/// PCI buses from 0 on, and an interrupt of pin A of so many devices, all on one wire.
+fn devices(alloc: Global, count: u32) -> Result<String, Fail> {
+    let mut lines = String::new(alloc);
+    for bus in 0..128 {
+        let line = format!(in alloc; "bus id {bus:02X} name \"PCI   \"\n")?;
+        lines.push_str(line.as_str())?;
+    }
+    for n in 0..count {
+        let bus = n / 32;
+        let irq = n % 32 * 4;
+        let line = format!(in alloc;
+            "ioint kind 00 flags 0000 bus {bus:02X} irq {irq:02X} dest 00 pin 10\n"
+        )?;
+        lines.push_str(line.as_str())?;
+    }
+    Ok(lines)
+}
+
+#[test]
+fn many_slots(rt: HostRuntime) -> Result<(), Fail> {
+    let lines = devices(rt.alloc(), 4094)?;
+    let many = of_lines(rt.alloc(), &["pirmake", "image"], lines.as_str())?;
+    same(
+        &rt,
+        "4,094 devices",
+        many.is(15, b"mptab: pir many slots 4094\n"),
+        true,
+    );
+    Ok(())
+}
