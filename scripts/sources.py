@@ -4,7 +4,7 @@ import re
 import subprocess
 
 TOP = pathlib.Path(__file__).resolve().parent.parent
-FUNCTION = re.compile(r"^(\s*)(pub(?:\([a-z]+\))? )?(?:const )?fn (\w+)")
+FUNCTION = re.compile(r'^(\s*)(pub(?:\([a-z]+\))? )?(?:const |extern "C" )?fn (\w+)')
 BLOCK = re.compile(r"^(?:pub )?(impl|trait)\b")
 WORD = re.compile(r"^(?:(?:abbrev|unfoldable) pub|pub (?:record|data)) (\w+)")
 
