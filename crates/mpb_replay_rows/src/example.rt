@@ -5,6 +5,7 @@ ghost use Rattle.mpb_spec.specs.Plan.{plan_size};
 
 use arrayvec::ArrayVec;
 use mpb_board::{Agent, Config, CpuConfig, DevWord, Entry, Imcr, Life, Op, Outcome, What};
+use mpb_config::config_of;
 use mpb_replay::{CpuLine, IoLine, Report};
 use mpb_spec::{Hit, Pulse};
 use mpt_spec::Sequence;
@@ -49,8 +50,8 @@ pub(crate) fn three_pulses(alloc: Global) -> Result<Config, AllocError>
 
 /// Two processors, of which the second waits for its start, and one I/O APIC. There are no devices, so the
 /// I/O APIC can sweep at once.
-pub(crate) fn two_processors(alloc: Global) -> Result<Config, AllocError>
-    ensures { IfOk result (λ c. plan_size c < 2 ^ 32) }
+pub(crate) fn two_processors(alloc: Global) -> Result<Option<Config>, AllocError>
+    ensures { IfOk result (λ made. IfSome made (λ c. plan_size c < 2 ^ 32)) }
 {
     let program = [Op::Init(1), Op::Startup(1, 0x9F), Op::Check(1)].to_vec(alloc)?;
     let mut cpus = Vec::new(alloc);
@@ -64,14 +65,8 @@ pub(crate) fn two_processors(alloc: Global) -> Result<Config, AllocError>
         version: 0x10,
         program: [Op::Poll].to_vec(alloc)?,
     })?;
-    Ok(Config {
-        boot: 0,
-        boot_len: 3,
-        cpus,
-        ios: [2].to_vec(alloc)?,
-        imcr: false,
-        devices: Vec::new(alloc),
-    })
+    let ios = [2].to_vec(alloc)?;
+    Ok(config_of(0x9F, 0, 3, cpus, ios, false, Vec::new(alloc)))
 }
 
 /// The entries of the run with three pulses.

@@ -534,7 +534,8 @@ fn waits(rt: &impl Abort, alloc: Global, name: &'static str, lines: &[Line], ent
         want,
     };
     match two_processors(alloc) {
-        Ok(config) => judged(rt, alloc, config, lines, &row),
+        Ok(Some(config)) => judged(rt, alloc, config, lines, &row),
+        Ok(None) => panic!(rt; "no config"),
         Err(_) => panic!(rt; "out of memory"),
     }
 }
