@@ -4,8 +4,6 @@
 #[cfg(test)]
 mod boards;
 #[cfg(test)]
-mod drills;
-#[cfg(test)]
 mod harness;
 #[cfg(test)]
 mod reports;
