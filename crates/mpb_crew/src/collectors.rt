@@ -33,8 +33,16 @@ fn sweep<R: Wait>(rt: &R, bus: &Bus, seat: &mut BusSeat, col: &ColSeat) -> Answe
     step(rt, bus, seat, Offer::Sweep)
 }
 
-// a message where one is due; else a sweep, where the collector is dry
-fn send_or_sweep<R: Wait>(rt: &R, bus: &Bus, seat: &mut BusSeat, col: &ColSeat, dry: bool) -> Answer
+// a message where one is due; else, behind the gate once more, a sweep, where the collector is dry
+fn send_or_sweep<R: Wait, G: Gate>(
+    rt: &R,
+    gate: &G,
+    agent: Agent,
+    bus: &Bus,
+    seat: &mut BusSeat,
+    col: &ColSeat,
+    dry: bool,
+) -> Answer
     requires bus { seat.old.bus ≡ bus.now.bus }
     requires dry { dry ≡ true → col.now.dry ≡ true }
     requires account { IsCollecting 0 seat.old col.now }
@@ -43,6 +51,7 @@ fn send_or_sweep<R: Wait>(rt: &R, bus: &Bus, seat: &mut BusSeat, col: &ColSeat, 
     match send(rt, bus, seat, col) {
         Answer::Idle => {
             if dry {
+                gate.pass(agent);
                 sweep(rt, bus, seat, col)
             } else {
                 Answer::Idle
@@ -81,9 +90,11 @@ fn take(latch: &Latch, seat: &BusSeat, col: &mut ColSeat) -> (u32, bool)
     (pins, ended && pins == 0)
 }
 
-// one turn: pins that are held are offered again; else the latch is looked at, and pins that were latched are collected
-fn turn<R: Wait>(
+// pins that are held are offered again; else the latch is looked at, and pins that were latched are collected
+fn turn<R: Wait, G: Gate>(
     rt: &R,
+    gate: &G,
+    agent: Agent,
     bus: &Bus,
     latch: &Latch,
     seat: &mut BusSeat,
@@ -101,7 +112,7 @@ fn turn<R: Wait>(
     }
     let (pins, dry) = take(latch, seat, col);
     if pins == 0 {
-        return send_or_sweep(rt, bus, seat, col, dry);
+        return send_or_sweep(rt, gate, agent, bus, seat, col, dry);
     }
     *held = pins;
     collect(rt, bus, seat, col, held)
@@ -128,7 +139,7 @@ pub(crate) fn run_io<R: Wait, G: Gate>(
     let mut held = 0;
     for _ in rt.forever() {
         gate.pass(agent);
-        if let Answer::Quiet = turn(rt, bus, latch, seat, col, &mut held) {
+        if let Answer::Quiet = turn(rt, gate, agent, bus, latch, seat, col, &mut held) {
             return;
         }
     }
