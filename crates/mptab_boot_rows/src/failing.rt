@@ -1,7 +1,7 @@
 //! Words that are no form, files that aren't there, and calls of shelf and sink that fail one by one.
 
 use crate::harness::{
-    Answer, BOTH, IMAGE, NOTHING, SCRIPT, answer_of, same, script_of, shelf_of, words_of,
+    Answer, BOTH, IMAGE, NOTHING, REPORT, SCRIPT, answer_of, same, script_of, shelf_of, words_of,
 };
 use crate::pulses::ONE;
 use mpt_base::{MemShelf, MemSink};
@@ -187,6 +187,8 @@ const IMAGE_UNREAD: &str = "mptab: cannot read board.img\n";
 
 const SCRIPT_UNREAD: &str = "mptab: cannot read boot.toml\n";
 
+const REPORT_UNREAD: &str = "mptab: cannot read report.txt\n";
+
 /// A call of the shelf that fails, and the line: of the image its size, two words, the EBDA's area, header and
 /// table; of the script its size and its bytes.
 const CALLS: &[(u64, &str)] = &[
@@ -224,6 +226,58 @@ fn calls_of_the_shelf(rt: HostRuntime) -> Result<(), Fail> {
     Ok(())
 }
 
+/// The answer of `replay` to that report of its board, where a call of the shelf fails and a put of the sink.
+fn judged<R: Threads + Wait + Sync>(
+    rt: &R,
+    alloc: Global,
+    call: u64,
+    put: u64,
+) -> Result<Answer, Fail> {
+    let script = script_of(alloc, "\"pause 1\",", 200, 0)?;
+    let mut shelf = shelf_of(alloc, ONE, script.as_slice())?;
+    let report = long_report(alloc)?;
+    shelf.add(REPORT, report.as_str().as_bytes())?;
+    shelf.fail(call)?;
+    answer_of(
+        rt,
+        alloc,
+        &["replay", IMAGE, SCRIPT, REPORT],
+        &mut shelf,
+        put,
+    )
+}
+
+/// The calls behind those of image and script: the report's size and its bytes.
+const CALLS_OF_THE_REPORT: &[(u64, &str)] = &[(9, REPORT_UNREAD), (10, REPORT_UNREAD)];
+
+/// The first of these calls whose failure has another answer of `replay`.
+fn first_wrong_of_replay<R: Threads + Wait + Sync>(
+    rt: &R,
+    alloc: Global,
+    calls: &[(u64, &str)],
+) -> Result<Option<u64>, Fail> {
+    for (call, line) in calls {
+        let answer = judged(rt, alloc, *call, 0)?;
+        if !answer.is(4, line) {
+            return Ok(Some(*call));
+        }
+    }
+    Ok(None)
+}
+
+#[test]
+fn calls_and_puts_of_replay(rt: HostRuntime) -> Result<(), Fail> {
+    let wrong = first_wrong_of_replay(&rt, rt.alloc(), CALLS)?;
+    same(&rt, "of image and script", wrong, None);
+    let wrong = first_wrong_of_replay(&rt, rt.alloc(), CALLS_OF_THE_REPORT)?;
+    same(&rt, "of the report", wrong, None);
+    let whole = judged(&rt, rt.alloc(), 11, 2)?;
+    assert!(rt; whole.is(0, "replay legal\n"));
+    let cut = judged(&rt, rt.alloc(), 11, 1)?;
+    assert!(rt; cut.is(5, ""));
+    Ok(())
+}
+
 /// A call of the shelf and a put of the sink that fail, the status, and the most bytes of the report that are
 /// written. There are eight calls and two puts.
 const PUTS: &[(u64, u64, u8, usize)] = &[
@@ -239,13 +293,27 @@ fn is_cut(answer: &Answer, status: u8, whole: &[u8], most: usize) -> bool {
     answer.status == status && answer.text.as_slice() == written
 }
 
+/// The first put whose failure has another answer.
+fn first_wrong_put<R: Threads + Wait + Sync>(
+    rt: &R,
+    alloc: Global,
+    command: &str,
+) -> Result<Option<(u64, u64)>, Fail> {
+    let report = long_report(alloc)?;
+    for (call, put, status, most) in PUTS {
+        let answer = long_answer(rt, alloc, command, *call, *put)?;
+        if !is_cut(&answer, *status, report.as_str().as_bytes(), *most) {
+            return Ok(Some((*call, *put)));
+        }
+    }
+    Ok(None)
+}
+
 #[test]
 fn puts_of_the_sink(rt: HostRuntime) -> Result<(), Fail> {
-    let report = long_report(rt.alloc())?;
-    for (call, put, status, most) in PUTS {
-        let answer = long_answer(&rt, rt.alloc(), "trace", *call, *put)?;
-        let holds = is_cut(&answer, *status, report.as_str().as_bytes(), *most);
-        assert!(rt; holds, "call {call}, put {put}");
+    for command in BOTH {
+        let wrong = first_wrong_put(&rt, rt.alloc(), command)?;
+        same(&rt, command, wrong, None);
     }
     Ok(())
 }

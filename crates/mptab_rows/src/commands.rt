@@ -482,3 +482,89 @@ fn calls_of_the_shelf_by_command(rt: HostRuntime) -> Result<(), Fail> {
     }
     Ok(())
 }
+
+/// A command over the usual board, a put that fails, and how much was written before it; none where no put fails.
+struct Putting {
+    words: &'static [&'static str],
+    failing: u64,
+    written: Option<usize>,
+}
+
+/// The findings and the routes are one put, an image is 256.
+const PUTTING: &[Putting] = &[
+    Putting {
+        words: &["audit", "image"],
+        failing: 1,
+        written: Some(0),
+    },
+    Putting {
+        words: &["audit", "image"],
+        failing: 2,
+        written: None,
+    },
+    Putting {
+        words: &["route", "image", "0000"],
+        failing: 1,
+        written: Some(0),
+    },
+    Putting {
+        words: &["route", "image", "0000"],
+        failing: 2,
+        written: None,
+    },
+    Putting {
+        words: &["canon", "image"],
+        failing: 1,
+        written: Some(0),
+    },
+    Putting {
+        words: &["canon", "image"],
+        failing: 2,
+        written: Some(4096),
+    },
+    Putting {
+        words: &["canon", "image"],
+        failing: 256,
+        written: Some(1_044_480),
+    },
+    Putting {
+        words: &["canon", "image"],
+        failing: 257,
+        written: None,
+    },
+];
+
+/// The answer of a command over the usual board, where this put fails; 0 is none.
+fn with_failing_put(
+    alloc: Global,
+    words: &[&str],
+    image: &[u8],
+    failing: u64,
+) -> Result<Answer, Fail> {
+    let mut shelf = shelf_of(alloc, "image", image)?;
+    answer_to(alloc, words, &mut shelf, failing)
+}
+
+/// Whether an answer is the whole one, or status 5 with its first bytes.
+fn is_first_part(answer: &Answer, whole: &Answer, written: Option<usize>) -> bool {
+    match written {
+        None => answer.is(whole.status, whole.text.as_slice()),
+        Some(most) => answer.is(5, whole.text.get(..most).unwrap_or(b"too short")),
+    }
+}
+
+#[test]
+fn puts_of_the_sink_by_command(rt: HostRuntime) -> Result<(), Fail> {
+    let image = usual_image(rt.alloc(), "")?;
+    for putting in PUTTING {
+        let whole = with_failing_put(rt.alloc(), putting.words, image.as_slice(), 0)?;
+        let answer = with_failing_put(
+            rt.alloc(),
+            putting.words,
+            image.as_slice(),
+            putting.failing,
+        )?;
+        assert!(rt; is_first_part(&answer, &whole, putting.written));
+    }
+    Ok(())
+}
