@@ -86,6 +86,7 @@ impl<'a, R: Files> Shelf for FileShelf<'a, R> {
         ensures unfailed { OnOk result (self.new.faults ≡ self.old.faults) }
         ensures missing { IfOk result (λ size. IfNone size (Rose self.old.misses self.new.misses)) }
         ensures found { IfOk result (λ size. IfSome size (λ _. self.new.misses ≡ self.old.misses)) }
+        ensures unmissed { OnErr result (self.new.misses ≡ self.old.misses) }
         ensures told { IfOk result (λ size. IsSizeTold untold_files name.now size) }
 
         // Nothing else is counted.
@@ -105,12 +106,11 @@ impl<'a, R: Files> Shelf for FileShelf<'a, R> {
 
     fn read_at(&mut self, name: &str, at: u64, buf: &mut [u8]) -> Result<(), Failed>
         ensures faults_never_fall { self.old.faults ≤ self.new.faults }
-        ensures misses_never_fall { self.old.misses ≤ self.new.misses }
+        ensures misses_stay { self.new.misses ≡ self.old.misses }
         ensures asked_never_falls { self.old.asked ≤ self.new.asked }
         ensures asks_the_buffer { self.new.asked ≤ self.old.asked + length buf.old }
         ensures failed { OnErr result (Rose self.old.faults self.new.faults) }
         ensures unfailed { OnOk result (self.new.faults ≡ self.old.faults) }
-        ensures found { OnOk result (self.new.misses ≡ self.old.misses) }
         ensures told { OnOk result (FillsFromTold untold_files name.now at buf.new) }
 
         // Nothing else is counted.

@@ -92,7 +92,7 @@ impl MemShelf {
         ensures ok { OnOk result (self.new ≡ after_call self.old) }
         ensures err { OnErr result (self.new ≡ after_failure self.old) }
         ensures faults_never_fall { self.old.faults ≤ self.new.faults }
-        ensures misses_never_fall { self.old.misses ≤ self.new.misses }
+        ensures misses_stay { self.new.misses ≡ self.old.misses }
     {
         self.calls = self.calls.saturating_add(1);
         if self.failing.contains(&self.calls) {
@@ -139,6 +139,7 @@ impl Shelf for MemShelf {
         ensures unfailed { OnOk result (self.new.faults ≡ self.old.faults) }
         ensures missing { IfOk result (λ size. IfNone size (Rose self.old.misses self.new.misses)) }
         ensures found { IfOk result (λ size. IfSome size (λ _. self.new.misses ≡ self.old.misses)) }
+        ensures unmissed { OnErr result (self.new.misses ≡ self.old.misses) }
         ensures told { IfOk result (λ size. IsSizeTold (Some (file_of self.old)) name.now size) }
 
         // A call fails exactly where it was told to.
@@ -161,12 +162,11 @@ impl Shelf for MemShelf {
         requires inside { IsInsideTold (Some (file_of self.old)) name.now at (length buf.old) }
         ensures files_stay { Some (file_of self.new) ≡ Some (file_of self.old) }
         ensures faults_never_fall { self.old.faults ≤ self.new.faults }
-        ensures misses_never_fall { self.old.misses ≤ self.new.misses }
+        ensures misses_stay { self.new.misses ≡ self.old.misses }
         ensures asked_never_falls { self.old.asked ≤ self.new.asked }
         ensures asks_the_buffer { self.new.asked ≤ self.old.asked + length buf.old }
         ensures failed { OnErr result (Rose self.old.faults self.new.faults) }
         ensures unfailed { OnOk result (self.new.faults ≡ self.old.faults) }
-        ensures found { OnOk result (self.new.misses ≡ self.old.misses) }
         ensures told { OnOk result (FillsFromTold (Some (file_of self.old)) name.now at buf.new) }
 
         // A call fails exactly where it was told to; what it asked for is counted all the same.

@@ -4,8 +4,9 @@
 //! some implementations (those in memory) and not by others (those over the operating system).
 //! Failures are counted: a call may fail only where the count of faults rose, so that code which is
 //! generic over a shelf or a sink can't give up by itself, and a call that succeeds leaves the count
-//! as it was, so that such code can't hide a failure behind a later call. A count stands still at the
-//! last value of a `u64`.
+//! as it was, so that such code can't hide a failure behind a later call. Files that aren't there are
+//! counted too, by the call that asks for a size and says so, and by no other. A count stands still at
+//! the last value of a `u64`.
 
 ghost use Rattle.std.specs.Prelude.{◌≡◌, ◌+◌, ◌≤◌, ℕ, List, Option, length, OnOk, OnErr, IfOk, IfNone, IfSome};
 ghost use Rattle.mpt_base.specs.Outside.{Rose, IsSizeTold, IsInsideTold, FillsFromTold, Appends, AppendsPrefix};
@@ -42,6 +43,7 @@ pub trait Shelf {
         ensures unfailed { OnOk result (faults self.new ≡ faults self.old) }
         ensures missing { IfOk result (λ size. IfNone size (Rose (misses self.old) (misses self.new))) }
         ensures found { IfOk result (λ size. IfSome size (λ _. misses self.new ≡ misses self.old)) }
+        ensures unmissed { OnErr result (misses self.new ≡ misses self.old) }
         ensures told { IfOk result (λ size. IsSizeTold (files self.old) name.now size) };
 
     /// Fills the buffer with the bytes of a file from `at` on.
@@ -49,12 +51,11 @@ pub trait Shelf {
         requires inside { IsInsideTold (files self.old) name.now at (length buf.old) }
         ensures files_stay { files self.new ≡ files self.old }
         ensures faults_never_fall { faults self.old ≤ faults self.new }
-        ensures misses_never_fall { misses self.old ≤ misses self.new }
+        ensures misses_stay { misses self.new ≡ misses self.old }
         ensures asked_never_falls { asked self.old ≤ asked self.new }
         ensures asks_the_buffer { asked self.new ≤ asked self.old + length buf.old }
         ensures failed { OnErr result (Rose (faults self.old) (faults self.new)) }
         ensures unfailed { OnOk result (faults self.new ≡ faults self.old) }
-        ensures found { OnOk result (misses self.new ≡ misses self.old) }
         ensures told { OnOk result (FillsFromTold (files self.old) name.now at buf.new) };
 }
 

@@ -95,6 +95,7 @@ impl<'a> Shelf for LentShelf<'a> {
         ensures unfailed { OnOk result (no_faults self.new ≡ no_faults self.old) }
         ensures missing { IfOk result (λ size. IfNone size (Rose self.old.misses self.new.misses)) }
         ensures found { IfOk result (λ size. IfSome size (λ _. self.new.misses ≡ self.old.misses)) }
+        ensures unmissed { OnErr result (self.new.misses ≡ self.old.misses) }
         ensures told { IfOk result (λ size. IsSizeTold (Some (lent_files self.old.files)) name.now size) }
     {
         match self.file(name) {
@@ -110,12 +111,11 @@ impl<'a> Shelf for LentShelf<'a> {
         requires inside { IsInsideTold (Some (lent_files self.old.files)) name.now at (length buf.old) }
         ensures files_stay { Some (lent_files self.new.files) ≡ Some (lent_files self.old.files) }
         ensures faults_never_fall { no_faults self.old ≤ no_faults self.new }
-        ensures misses_never_fall { self.old.misses ≤ self.new.misses }
+        ensures misses_stay { self.new.misses ≡ self.old.misses }
         ensures asked_never_falls { self.old.asked ≤ self.new.asked }
         ensures asks_the_buffer { self.new.asked ≤ self.old.asked + length buf.old }
         ensures failed { OnErr result (Rose (no_faults self.old) (no_faults self.new)) }
         ensures unfailed { OnOk result (no_faults self.new ≡ no_faults self.old) }
-        ensures found { OnOk result (self.new.misses ≡ self.old.misses) }
         ensures told { OnOk result (FillsFromTold (Some (lent_files self.old.files)) name.now at buf.new) }
     {
         self.asked = self.asked.saturating_add(buf.len() as u64);
