@@ -1,2 +1,3 @@
 mod RowLemmas
 mod ListLemmas
+mod StatusLemmas

@@ -2,7 +2,9 @@
 --     place_of s n        where the rows have pin n's bit of a sign
 --     shows s p           the pin has the sign
 --     pins_of rows es     the pins, of their redirections and the rows
-use Rattle.std.specs.Prelude.{ℕ, ◌+◌, Bool, List, [], ◌∷◌}
+--     HasNoStatus p       the low half is one that was written
+use Rattle.std.specs.Prelude.{◌≡◌, ℕ, ◌+◌, Bool, List, [], ◌∷◌}
+use Rattle.std.specs.Int.{bit_at}
 use Rattle.mpb_spec.specs.Numbers.{has}
 use Rattle.mpb_spec.specs.declared.apic.Pin.{Pin}
 use Rattle.mpb_ioapic.specs.declared.redirection.Redirection.{Redirection}
@@ -33,3 +35,7 @@ pins_from rows n (e ∷ es) = pin_of rows n e ∷ pins_from rows (n + 1) es
 -- all pins
 unfoldable pub pins_of : List ℕ → List Redirection → List Pin
 pins_of rows es = pins_from rows 0 es
+
+-- the low half is without the delivery status and remote IRR
+abbrev pub HasNoStatus : Pin → Type 0
+HasNoStatus p = (bit_at p.low 12 ≡ 0) × (bit_at p.low 14 ≡ 0)

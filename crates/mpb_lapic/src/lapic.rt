@@ -7,7 +7,7 @@ ghost use Rattle.mpb_spec.specs.LocalApic.{reset, ppr, next_vector, acceptance, 
 ghost use Rattle.mpb_spec.specs.Numbers.{has, greatest};
 
 use mpb_bits::Rows;
-use mpb_spec::Accept;
+use mpb_spec::{Accept, CLASS_SIZE, CLUSTER, FIRST_VECTOR, FLAT, TO_ALL};
 use std::marker::Model;
 
 /// A set of vectors: the numbers below 256, in four words.
@@ -44,7 +44,7 @@ impl Lapic {
             tmr: Vectors::none(),
             tpr: 0,
             ldr: 0,
-            dfr: 15,
+            dfr: FLAT,
         }
     }
 
@@ -54,7 +54,7 @@ impl Lapic {
         ensures answer { result ≡ acceptance vector self.old }
         ensures state { self.new ≡ accepted vector level self.old }
     {
-        if vector < 16 {
+        if vector < FIRST_VECTOR {
             return Accept::Illegal;
         }
         if level {
@@ -75,7 +75,7 @@ impl Lapic {
         ensures priority { result ≡ ppr self.now }
     {
         match top_of(&self.isr) {
-            Some(top) if top / 16 > self.tpr / 16 => top / 16 * 16,
+            Some(top) if top / CLASS_SIZE > self.tpr / CLASS_SIZE => top / CLASS_SIZE * CLASS_SIZE,
             _ => self.tpr,
         }
     }
@@ -86,7 +86,7 @@ impl Lapic {
         ensures answer { result ≡ next_vector self.now }
     {
         match top_of(&self.irr) {
-            Some(top) if top / 16 > self.ppr() / 16 => Some(top),
+            Some(top) if top / CLASS_SIZE > self.ppr() / CLASS_SIZE => Some(top),
             _ => None,
         }
     }
@@ -163,21 +163,21 @@ impl Lapic {
     pub fn matches(&self, dest: u8) -> bool
         ensures exact { result ≡ matches dest self.now }
     {
-        dest == 255 || self.matches_flat(dest) || self.matches_cluster(dest)
+        dest == TO_ALL || self.matches_flat(dest) || self.matches_cluster(dest)
     }
 
     // in the flat model
     fn matches_flat(&self, dest: u8) -> bool
         ensures { result ≡ matches_flat dest self.now }
     {
-        self.dfr == 15 && dest & self.ldr != 0
+        self.dfr == FLAT && dest & self.ldr != 0
     }
 
     // in the cluster model
     fn matches_cluster(&self, dest: u8) -> bool
         ensures { result ≡ matches_cluster dest self.now }
     {
-        self.dfr == 0 && dest / 16 == self.ldr / 16 && (dest % 16) & (self.ldr % 16) != 0
+        self.dfr == CLUSTER && dest / 16 == self.ldr / 16 && (dest % 16) & (self.ldr % 16) != 0
     }
 
     /// Whether the vector is requested.

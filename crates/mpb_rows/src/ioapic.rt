@@ -1,5 +1,7 @@
 //! An I/O APIC by tables, after the 82093AA datasheet, section 3.
 
+ghost use Rattle.std.specs.Prelude.{◌<◌};
+
 use crate::harness::same;
 use mpb_ioapic::{Collected, Effect, IoApic, Message};
 use std::process::Abort;
@@ -71,6 +73,33 @@ fn one_history_of_calls(rt: HostRuntime) {
     reads(&rt, &chip, 0xB030);
     drives(&rt, &mut chip, 1, false, Effect::Withdrawn);
     reads(&rt, &chip, 0xA030);
+}
+
+// Asserts both halves of a pin's entry as they were written.
+fn has_halves(rt: &impl Abort, chip: &IoApic, pin: u8, low: u32, high: u32)
+    requires { pin < 24 }
+{
+    let got = (pin, chip.low(pin), chip.high(pin));
+    same(rt, "pin, and its halves", got, (pin, low, high));
+}
+
+// The delivery status and remote IRR are read in a low half, and are no part of what was written.
+#[test]
+fn halves_as_they_were_written(rt: HostRuntime) {
+    let mut chip = IoApic::new(1);
+    chip.select(0x12);
+    writes(&rt, &mut chip, 0xFFFE_F030, Effect::Plain);
+    has_halves(&rt, &chip, 1, 0xA030, 0);
+    drives(&rt, &mut chip, 1, true, Effect::Due);
+    reads(&rt, &chip, 0xB030);
+    has_halves(&rt, &chip, 1, 0xA030, 0);
+    chip.sent(1, true);
+    reads(&rt, &chip, 0xE030);
+    has_halves(&rt, &chip, 1, 0xA030, 0);
+    chip.select(0x13);
+    writes(&rt, &mut chip, 0x5AFF_FFFF, Effect::Plain);
+    has_halves(&rt, &chip, 1, 0xA030, 0x5A00_0000);
+    has_halves(&rt, &chip, 2, 0x1_0000, 0);
 }
 
 // Asserts what a register of an I/O APIC of id 11 reads after a reset, and after a write of FFFFFFFFh.

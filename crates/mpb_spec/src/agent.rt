@@ -1,5 +1,8 @@
 //! Who makes a step of a board, and what steps there are (this project's own).
 
+/// The longest pause of a script in microseconds, a second.
+pub const LONGEST_PAUSE: u32 = 1_000_000;
+
 /// Who makes a step. Processors come before I/O APICs, these before devices, each by number.
 #[derive(Clone, Copy, Debug, PartialEq)]
 pub enum Agent {

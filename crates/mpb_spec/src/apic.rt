@@ -1,5 +1,27 @@
 //! What the calls of the two APICs take and answer.
 
+/// The least legal vector of a fixed interrupt (Intel SDM volume 3, section 10.5.2).
+pub const FIRST_VECTOR: u8 = 16;
+
+/// How many vectors a priority class has (Intel SDM volume 3, section 10.8.3).
+pub const CLASS_SIZE: u8 = 16;
+
+/// How many pins an I/O APIC has, INTIN 0 to 23 (82093AA datasheet).
+pub const PINS: u8 = 24;
+
+/// The destination that means all processors, in eight bits.
+pub const TO_ALL: u8 = 255;
+
+/// The physical destination that means all processors in an entry of an I/O APIC, which has four bits for it
+/// (82093AA datasheet, section 3.2.4). So the ids below it are those that an entry can name.
+pub const ENTRY_TO_ALL: u8 = 15;
+
+/// The flat model of logical destinations: bits 31:28 of the DFR (Intel SDM volume 3, section 10.6.2.2).
+pub const FLAT: u8 = 15;
+
+/// The cluster model of logical destinations.
+pub const CLUSTER: u8 = 0;
+
 /// What became of a fixed interrupt at a local APIC.
 #[derive(Clone, Copy, PartialEq)]
 pub enum Accept {
@@ -7,7 +29,7 @@ pub enum Accept {
     Set,
     /// It was requested already.
     Merged,
-    /// Its vector is below 16.
+    /// Its vector is below `FIRST_VECTOR`.
     Illegal,
 }
 

@@ -3,6 +3,18 @@
 use crate::agent::Op;
 use std::marker::Model;
 
+/// How many processors a board has at most.
+pub const MOST_CPUS: usize = 8;
+
+/// How many I/O APICs a board has at most.
+pub const MOST_IO_APICS: usize = 4;
+
+/// How many devices a board has at most.
+pub const MOST_DEVICES: usize = 4;
+
+/// The least version of a local APIC that has STARTUP (MultiProcessor Specification 1.4, appendix B.4).
+pub const STARTUP_VERSION: u8 = 0x10;
+
 /// A word of a device: the place of the I/O APIC, and the pin, below 24.
 #[derive(Clone, Copy, PartialEq)]
 pub enum DevWord {

@@ -3,7 +3,11 @@
 ghost use Rattle.std.specs.Prelude.{◌≡◌, ◌≤◌, length};
 
 use crate::agent::{Agent, Op};
+use crate::config::MOST_CPUS;
 use arrayvec::ArrayVec;
+
+/// What an entry came to: an outcome for each target, so at most one a processor.
+pub type Outcomes = ArrayVec<Outcome, MOST_CPUS>;
 
 /// What an operation came to, at a target or without one.
 #[derive(Clone, Copy, PartialEq)]
@@ -77,7 +81,7 @@ impl Default for Outcome {
 pub struct Entry {
     pub agent: Agent,
     pub op: Op,
-    pub outcomes: ArrayVec<Outcome, 8>,
+    pub outcomes: Outcomes,
 }
 
 impl Entry {
@@ -93,11 +97,11 @@ impl Entry {
     }
 }
 
-fn same_outcomes(list: &[Outcome]) -> ArrayVec<Outcome, 8>
+fn same_outcomes(list: &[Outcome]) -> Outcomes
     requires { length list.now ≤ 8 }
     ensures { result.items ≡ list.now }
 {
-    let mut outcomes = ArrayVec::new();
+    let mut outcomes = Outcomes::new();
     for outcome in list {
         outcomes.push(*outcome);
     }

@@ -11,9 +11,14 @@ mod fault;
 mod pulse;
 
 pub use account::Account;
-pub use agent::{Agent, Offer, Op};
-pub use apic::{Accept, Aim, Collected, Delivery, Destination, Effect, Message, Pin};
-pub use config::{Config, CpuConfig, DevWord, Imcr, Life};
-pub use entry::{Entry, Outcome, What};
+pub use agent::{Agent, LONGEST_PAUSE, Offer, Op};
+pub use apic::{
+    Accept, Aim, CLASS_SIZE, CLUSTER, Collected, Delivery, Destination, ENTRY_TO_ALL, Effect,
+    FIRST_VECTOR, FLAT, Message, PINS, Pin, TO_ALL,
+};
+pub use config::{
+    Config, CpuConfig, DevWord, Imcr, Life, MOST_CPUS, MOST_DEVICES, MOST_IO_APICS, STARTUP_VERSION,
+};
+pub use entry::{Entry, Outcome, Outcomes, What};
 pub use fault::BoardError;
 pub use pulse::{Hit, Pulse};
