@@ -7,7 +7,7 @@ ghost use Rattle.mpb_spec.specs.Numbers.{has};
 ghost use Rattle.mpb_config.specs.ConfigTests.{is_ascending, is_cpu_plan};
 
 use crate::ops::{are_aimed, are_at_page, are_boot_ops, are_on, are_script_ops};
-use mpb_spec::CpuConfig;
+use mpb_spec::{CpuConfig, TO_ALL};
 
 /// What the rules of a processor speak of: the boot processor's id, the length of the boot program, how
 /// many I/O APICs there are, and the page that the boot program names.
@@ -36,7 +36,7 @@ fn is_right(cpu: &CpuConfig, rules: Rules) -> bool
 {
     let program = cpu.program.as_slice();
     let first = boot_ops(cpu, rules);
-    if cpu.id == 255 || first > program.len() {
+    if cpu.id == TO_ALL || first > program.len() {
         return false;
     }
     let (starts, goes_on) = program.split_at(first);

@@ -5,7 +5,7 @@ ghost use Rattle.mpb_config.specs.ConfigTests.{IsConfigAt, is_config};
 
 use crate::cpus::{Rules, are_ascending, are_right, have_id};
 use crate::words::all_are_on;
-use mpb_spec::{Config, CpuConfig, DevWord};
+use mpb_spec::{Config, CpuConfig, DevWord, ENTRY_TO_ALL, MOST_CPUS, MOST_DEVICES, MOST_IO_APICS};
 
 // whether the parts are those of a board; it may have an interrupt mode register or not
 fn is_config(
@@ -25,12 +25,12 @@ fn is_config(
         page,
     };
     !cpus.is_empty()
-        && cpus.len() <= 8
+        && cpus.len() <= MOST_CPUS
         && are_ascending(cpus)
         && have_id(cpus, boot)
-        && boot < 15
-        && ios.len() <= 4
-        && devices.len() <= 4
+        && boot < ENTRY_TO_ALL
+        && ios.len() <= MOST_IO_APICS
+        && devices.len() <= MOST_DEVICES
         && are_right(cpus, rules)
         && all_are_on(devices, ios.len())
 }

@@ -5,7 +5,7 @@ ghost use Rattle.std.specs.List.{list_all};
 ghost use Rattle.mpb_spec.specs.Configs.{is_boot_op, is_script_op};
 ghost use Rattle.mpb_config.specs.ConfigTests.{is_op_on, is_other, is_aimed, is_at_page};
 
-use mpb_spec::Op;
+use mpb_spec::{CLUSTER, FLAT, LONGEST_PAUSE, Op, TO_ALL};
 
 fn is_boot_op(op: Op) -> bool
     ensures { result ≡ is_boot_op op }
@@ -35,11 +35,11 @@ fn is_script_op(op: Op) -> bool
         Op::Eoi => true,
         Op::Tpr(_) => true,
         Op::Ldr(_) => true,
-        Op::Dfr(model) => model == 0 || model == 15,
+        Op::Dfr(model) => model == CLUSTER || model == FLAT,
         Op::IoSel(..) => true,
         Op::IoWin(..) => true,
         Op::IoRead(_) => true,
-        Op::Pause(us) => us <= 1_000_000,
+        Op::Pause(us) => us <= LONGEST_PAUSE,
         _ => false,
     }
 }
@@ -58,7 +58,7 @@ fn is_on(op: Op, ios: usize) -> bool
 fn is_other(boot: u8, id: u8) -> bool
     ensures { result ≡ is_other boot id }
 {
-    id != 255 && id != boot
+    id != TO_ALL && id != boot
 }
 
 fn is_aimed(op: Op, boot: u8) -> bool

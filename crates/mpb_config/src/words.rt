@@ -4,16 +4,16 @@ ghost use Rattle.std.specs.Prelude.{◌≡◌, map};
 ghost use Rattle.std.specs.List.{list_all};
 ghost use Rattle.mpb_config.specs.ConfigTests.{is_word_on};
 
-use mpb_spec::DevWord;
+use mpb_spec::{DevWord, PINS};
 
 // whether the word names a pin of the first `ios` I/O APICs
 fn is_on(word: DevWord, ios: usize) -> bool
     ensures { result ≡ is_word_on ios word }
 {
     match word {
-        DevWord::Pulse(at, pin) => usize::from(at) < ios && pin < 24,
-        DevWord::High(at, pin) => usize::from(at) < ios && pin < 24,
-        DevWord::Low(at, pin) => usize::from(at) < ios && pin < 24,
+        DevWord::Pulse(at, pin) => usize::from(at) < ios && pin < PINS,
+        DevWord::High(at, pin) => usize::from(at) < ios && pin < PINS,
+        DevWord::Low(at, pin) => usize::from(at) < ios && pin < PINS,
     }
 }
 

@@ -11,7 +11,7 @@ ghost use Rattle.mpb_spec.specs.LocalApic.{taken, next_vector, ended, after_end}
 ghost use Rattle.mpb_spec.specs.Ranks.{rank_of, is_chosen};
 
 use mpb_lapic::Lapic;
-use mpb_spec::{Accept, CpuConfig, Delivery, Destination, Life, Op, What};
+use mpb_spec::{Accept, CpuConfig, Delivery, Destination, Life, Op, STARTUP_VERSION, What};
 use std::alloc::{AllocError, Global};
 use std::marker::Model;
 
@@ -58,12 +58,12 @@ fn init(warm: Option<u8>, version: u8, life: Life) -> (Life, What)
     ensures outcome { result.1 ≡ init_outcome warm version life }
 {
     match life {
-        Life::Asleep if version >= 16 => (Life::Waiting, What::Waiting),
+        Life::Asleep if version >= STARTUP_VERSION => (Life::Waiting, What::Waiting),
         Life::Asleep => match warm {
             Some(page) => (Life::Started(page), What::Started(page)),
             None => (life, What::Ignored),
         },
-        Life::Waiting if version >= 16 => (life, What::Waiting),
+        Life::Waiting if version >= STARTUP_VERSION => (life, What::Waiting),
         _ => (life, What::Ignored),
     }
 }

@@ -11,9 +11,8 @@ ghost use Rattle.mpb_spec.specs.Ranks.{is_less, lesser, least_rank, rank_sought,
 
 use crate::cpu::Cpu;
 use crate::telling::{of_life, of_take};
-use arrayvec::ArrayVec;
 use mpb_lapic::Lapic;
-use mpb_spec::{Aim, Delivery, Destination, Life, Op, Outcome, What};
+use mpb_spec::{Aim, Delivery, Destination, Life, Op, Outcome, Outcomes, What};
 
 /// The place of the processor with this id.
 pub fn find(cpus: &[Cpu], id: u8) -> Option<usize>
@@ -232,12 +231,12 @@ fn deliver_to_chosen(
     to: Destination,
     rank: Option<(u8, u8)>,
     delivery: Delivery,
-) -> ArrayVec<Outcome, 8>
+) -> Outcomes
     requires { length cpus.old ≤ 8 }
     ensures state { cpus.new ≡ map (delivered_to warm (is_chosen to rank) delivery) cpus.old }
     ensures outcomes { result.items ≡ outcomes_at warm (is_chosen to rank) (byte_of to) delivery cpus.old }
 {
-    let mut outcomes = ArrayVec::new();
+    let mut outcomes = Outcomes::new();
     for cpu in cpus.iter_mut() {
         if cpu.is_chosen(to, rank) {
             let at = cpu.id();
@@ -256,12 +255,7 @@ fn deliver_to_chosen(
 
 /// A message is delivered to its targets among these processors, of which there are at most 8: an outcome
 /// for each, ascending by id, or `Absent` at its destination's byte where there is none.
-pub fn deliver_to(
-    cpus: &mut [Cpu],
-    warm: Option<u8>,
-    aim: Aim,
-    delivery: Delivery,
-) -> ArrayVec<Outcome, 8>
+pub fn deliver_to(cpus: &mut [Cpu], warm: Option<u8>, aim: Aim, delivery: Delivery) -> Outcomes
     requires { length cpus.old ≤ 8 }
     ensures state { cpus.new ≡ map (delivered_to warm (is_target aim cpus.old) delivery) cpus.old }
     ensures outcomes { result.items ≡ outcomes_at warm (is_target aim cpus.old) (byte_of aim.at) delivery cpus.old }

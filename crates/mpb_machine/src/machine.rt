@@ -21,10 +21,9 @@ use crate::opening::{cpus_of, devices_of, places_of};
 use crate::place::IoPlace;
 use crate::telling::{aim_of, kind_of, of_eoi, tell, was_accepted};
 use crate::{cpus, devices, places};
-use arrayvec::ArrayVec;
 use mpb_ioapic::IoApic;
 use mpb_lapic::Lapic;
-use mpb_spec::{Agent, Aim, Config, Delivery, Imcr, Life, Message, Offer, Op, Outcome, What};
+use mpb_spec::{Agent, Aim, Config, Delivery, Imcr, Life, Message, Offer, Op, Outcomes, What};
 use std::alloc::{AllocError, Global};
 use std::marker::Model;
 
@@ -97,7 +96,7 @@ impl Machine {
     }
 
     /// A message is delivered, with an outcome for each target.
-    pub fn deliver(&mut self, aim: Aim, delivery: Delivery) -> ArrayVec<Outcome, 8>
+    pub fn deliver(&mut self, aim: Aim, delivery: Delivery) -> Outcomes
         ensures state { self.new ≡ delivered aim delivery self.old }
         ensures outcomes { result.items ≡ delivery_outcomes aim delivery self.old }
     {
@@ -197,7 +196,7 @@ impl Machine {
     }
 
     // what a pin's message delivers is delivered
-    fn deliver_kind(&mut self, aim: Aim, kind: Option<Delivery>) -> ArrayVec<Outcome, 8>
+    fn deliver_kind(&mut self, aim: Aim, kind: Option<Delivery>) -> Outcomes
         ensures state { self.new ≡ deliver_kind aim kind self.old }
         ensures outcomes { result.items ≡ kind_outcomes aim kind self.old }
     {
@@ -208,7 +207,7 @@ impl Machine {
     }
 
     // a message of an I/O APIC is delivered, and its pin told whether it was accepted
-    fn send_message(&mut self, at: u8, message: &Message) -> ArrayVec<Outcome, 8>
+    fn send_message(&mut self, at: u8, message: &Message) -> Outcomes
         ensures state { self.new ≡ sent_message at (Some message.now) self.old }
         ensures outcomes { result.items ≡ send_outcomes (Some message.now) self.old }
     {
@@ -224,13 +223,13 @@ impl Machine {
     }
 
     /// An I/O APIC sends the message of its least due pin.
-    pub fn send(&mut self, at: u8) -> ArrayVec<Outcome, 8>
+    pub fn send(&mut self, at: u8) -> Outcomes
         ensures state { self.new ≡ sent_message at (due_at at self.old) self.old }
         ensures outcomes { result.items ≡ send_outcomes (due_at at self.old) self.old }
     {
         match places::next_due(self.places.as_slice(), usize::from(at)) {
             Some(message) => self.send_message(at, &message),
-            None => ArrayVec::new(),
+            None => Outcomes::new(),
         }
     }
 

@@ -9,15 +9,14 @@ ghost use Rattle.mpb_spec.specs.Outcomes.{outcomes_of, outcomes_of_cpu, outcomes
 
 use crate::machine::Machine;
 use crate::telling::tell;
-use arrayvec::ArrayVec;
-use mpb_spec::{Agent, Aim, Delivery, Destination, Op, Outcome, What};
+use mpb_spec::{Agent, Aim, Delivery, Destination, Op, Outcomes, TO_ALL, What};
 
 // where a processor's message goes: a physical destination of 255 is all
 fn to_id(dest: u8) -> Aim
     ensures { result ≡ an_id dest }
 {
     Aim {
-        at: Destination::Physical(dest, 255),
+        at: Destination::Physical(dest, TO_ALL),
         lowest: false,
     }
 }
@@ -33,7 +32,7 @@ fn to_logical(dest: u8) -> Aim
 }
 
 /// An op of a processor, but for its position. Condition: a model that it sets is 0 or 15.
-pub fn make_cpu(m: &mut Machine, id: u8, op: Op) -> ArrayVec<Outcome, 8>
+pub fn make_cpu(m: &mut Machine, id: u8, op: Op) -> Outcomes
     requires { IsModelled op }
     ensures state { m.new ≡ effect_of_cpu id op m.old }
     ensures outcomes { result.items ≡ outcomes_of_cpu id op m.old }
@@ -79,7 +78,7 @@ pub fn make_cpu(m: &mut Machine, id: u8, op: Op) -> ArrayVec<Outcome, 8>
 }
 
 /// An op of a device, but for its position.
-pub fn make_dev(m: &mut Machine, op: Op) -> ArrayVec<Outcome, 8>
+pub fn make_dev(m: &mut Machine, op: Op) -> Outcomes
     ensures state { m.new ≡ effect_of_dev op m.old }
     ensures outcomes { result.items ≡ outcomes_of_dev op m.old }
 {
@@ -91,7 +90,7 @@ pub fn make_dev(m: &mut Machine, op: Op) -> ArrayVec<Outcome, 8>
 }
 
 /// An op of an I/O APIC.
-pub fn make_io(m: &mut Machine, at: u8, op: Op) -> ArrayVec<Outcome, 8>
+pub fn make_io(m: &mut Machine, at: u8, op: Op) -> Outcomes
     ensures state { m.new ≡ effect_of_io at op m.old }
     ensures outcomes { result.items ≡ outcomes_of_io at op m.old }
 {
@@ -107,7 +106,7 @@ pub fn make_io(m: &mut Machine, at: u8, op: Op) -> ArrayVec<Outcome, 8>
 }
 
 /// The op that an agent may make next is made. Condition: a model that it sets is 0 or 15.
-pub fn make(m: &mut Machine, agent: Agent, op: Op) -> ArrayVec<Outcome, 8>
+pub fn make(m: &mut Machine, agent: Agent, op: Op) -> Outcomes
     requires may { (f : Offer) × (next_op m.old agent f ≡ Some op) }
     requires model { IsModelledBy agent op }
     ensures state { m.new ≡ after agent op m.old }

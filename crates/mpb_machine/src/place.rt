@@ -7,7 +7,7 @@ ghost use Rattle.mpb_spec.specs.Steps.{with_chip, with_pins_of, collected, left_
 ghost use Rattle.mpb_spec.specs.Asks.{least_left, collect_of, offer_of};
 
 use mpb_ioapic::{Collected, Effect, IoApic, Message};
-use mpb_spec::Offer;
+use mpb_spec::{Offer, PINS};
 use std::marker::Model;
 
 /// An I/O APIC, whether it has swept, and how many collections of each pin are left.
@@ -15,7 +15,7 @@ use std::marker::Model;
 pub struct IoPlace {
     chip: IoApic,
     swept: bool,
-    left: [u32; 24],
+    left: [u32; PINS as usize],
 }
 
 impl Model for IoPlace {
@@ -75,7 +75,7 @@ fn least_left(left: &[u32]) -> Option<u32>
 
 impl IoPlace {
     /// An I/O APIC after a reset, with these collections left.
-    pub fn new(id: u8, left: [u32; 24]) -> IoPlace
+    pub fn new(id: u8, left: [u32; PINS as usize]) -> IoPlace
         ensures { result ≡ record { chip = reset_chip id; swept = false; left = left } }
     {
         IoPlace {

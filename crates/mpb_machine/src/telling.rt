@@ -6,14 +6,16 @@ ghost use Rattle.mpb_spec.specs.declared.entry.What.TheVariants.{Pins as pins};
 ghost use Rattle.mpb_spec.specs.Outcomes.{only, found_alive, what_taken, what_ended, what_effect};
 ghost use Rattle.mpb_spec.specs.Steps.{is_accepted, was_accepted, kind_of, aim_of};
 
-use arrayvec::ArrayVec;
-use mpb_spec::{Aim, Collected, Delivery, Destination, Effect, Life, Message, Outcome, What};
+use mpb_spec::{
+    Aim, Collected, Delivery, Destination, ENTRY_TO_ALL, Effect, Life, Message, Outcome, Outcomes,
+    What,
+};
 
 /// One outcome.
-pub fn tell(at: u8, what: What) -> ArrayVec<Outcome, 8>
+pub fn tell(at: u8, what: What) -> Outcomes
     ensures { result.items ≡ record { at = at; what = what } ∷ [] }
 {
-    let mut outcomes = ArrayVec::new();
+    let mut outcomes = Outcomes::new();
     outcomes.push(Outcome { at, what });
     outcomes
 }
@@ -104,7 +106,7 @@ pub fn aim_of(message: &Message) -> Aim
         at: if message.logical {
             Destination::Logical(message.dest)
         } else {
-            Destination::Physical(message.dest, 15)
+            Destination::Physical(message.dest, ENTRY_TO_ALL)
         },
         lowest: message.mode == 1,
     }

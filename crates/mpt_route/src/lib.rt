@@ -12,5 +12,5 @@ mod routing;
 
 pub use bus::{BusKind, bus_kind};
 pub use platform::{Platform, boot_processor_of, platform_of};
-pub use route::{Answer, Route, Why};
+pub use route::{Answer, ROUTED_IO_APICS, Route, Why};
 pub use routing::{first_buses, routes};

@@ -3,10 +3,11 @@
 ghost use Rattle.std.specs.Prelude.{◌≡◌, ◌<◌};
 ghost use Rattle.mpt_route.specs.Pins.{HasPins, low_at, NotesLow, answer_on};
 
-use crate::route::{Answer, Route, Why};
+use crate::route::{Answer, ROUTED_IO_APICS, Route, Why};
+use mpt_spec::IO_APIC_PINS;
 
 /// The low words by place and pin.
-pub type Lows = [[Option<u32>; 24]; 4];
+pub type Lows = [[Option<u32>; IO_APIC_PINS as usize]; ROUTED_IO_APICS];
 
 // the answer to a row where a pin may be taken; a pin that isn't is taken then
 pub fn settle(lows: &mut Lows, row: Route) -> Answer

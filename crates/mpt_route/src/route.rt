@@ -1,5 +1,8 @@
 //! Routes, and why an interrupt entry has none.
 
+/// How many I/O APICs a route can lead to: the first enabled ones, in table order.
+pub const ROUTED_IO_APICS: usize = 4;
+
 /// A row of an I/O APIC's redirection table (82093AA datasheet, section 3.2.4).
 #[derive(Clone, Copy, PartialEq, Eq)]
 pub struct Route {

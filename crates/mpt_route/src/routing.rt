@@ -11,7 +11,7 @@ ghost use Rattle.mpt_route.specs.Index.{IsTableOf, own_answer};
 use crate::bus::{BusKind, bus_kind, is_level_low};
 use crate::pins::{Lows, settle};
 use crate::platform::{Platform, boot_processor_of};
-use crate::route::{Answer, Route, Why};
+use crate::route::{Answer, ROUTED_IO_APICS, Route, Why};
 use mpt_base::NoMemory;
 use mpt_spec::{ALL_APICS, Bus, IO_APIC_PINS, IntEntry, IoApic, Kind, Polarity, Trigger};
 use std::alloc::{AllocError, Global};
@@ -59,7 +59,7 @@ fn no_lows() -> Lows
     ensures pins { HasPins result }
     ensures none { (io pin : ℕ) → io < 4 → pin < 24 → low_at result io pin ≡ None }
 {
-    [[None; 24]; 4]
+    [[None; IO_APIC_PINS as usize]; ROUTED_IO_APICS]
 }
 
 // an empty table by id
@@ -91,7 +91,7 @@ fn routable_ids(alloc: Global, ios: &[IoApic]) -> Result<Vec<u8>, AllocError>
 {
     ios.iter()
         .filter(|io| io.is_enabled())
-        .take(4)
+        .take(ROUTED_IO_APICS)
         .map(|io| io.id)
         .collect(alloc)
 }
