@@ -34,7 +34,7 @@ fn body_from<S: Shelf>(
     requires right { HasRightPointer pointer.now size }
     ensures files_stay { S.files shelf.new ≡ S.files shelf.old }
     ensures faults_never_fall { S.faults shelf.old ≤ S.faults shelf.new }
-    ensures misses_never_fall { S.misses shelf.old ≤ S.misses shelf.new }
+    ensures misses_stay { S.misses shelf.new ≡ S.misses shelf.old }
     ensures unread { result ≡ Err FileRefusal.Read → Rose (S.faults shelf.old) (S.faults shelf.new) }
     ensures unfailed { result ≢ Err FileRefusal.Read → S.faults shelf.new ≡ S.faults shelf.old }
     ensures asks { S.asked shelf.new ≤ S.asked shelf.old + 131114 }
@@ -69,7 +69,7 @@ fn tables_from<S: Shelf>(
         × IsFloatingPointer found.pointer (part image found.at 16)) }
     ensures files_stay { S.files shelf.new ≡ S.files shelf.old }
     ensures faults_never_fall { S.faults shelf.old ≤ S.faults shelf.new }
-    ensures misses_never_fall { S.misses shelf.old ≤ S.misses shelf.new }
+    ensures misses_stay { S.misses shelf.new ≡ S.misses shelf.old }
     ensures unread { result ≡ Err FileRefusal.Read → Rose (S.faults shelf.old) (S.faults shelf.new) }
     ensures unfailed { result ≢ Err FileRefusal.Read → S.faults shelf.new ≡ S.faults shelf.old }
     ensures asks { S.asked shelf.new ≤ S.asked shelf.old + 131114 }
@@ -99,7 +99,7 @@ fn answer_from<S: Shelf>(
     requires told { IsSizeTold (S.files shelf.old) name.now (Some size) }
     ensures files_stay { S.files shelf.new ≡ S.files shelf.old }
     ensures faults_never_fall { S.faults shelf.old ≤ S.faults shelf.new }
-    ensures misses_never_fall { S.misses shelf.old ≤ S.misses shelf.new }
+    ensures misses_stay { S.misses shelf.new ≡ S.misses shelf.old }
     ensures unread { result ≡ Err FileRefusal.Read → Rose (S.faults shelf.old) (S.faults shelf.new) }
     ensures unfailed { result ≢ Err FileRefusal.Read → S.faults shelf.new ≡ S.faults shelf.old }
     ensures asks { S.asked shelf.new ≤ S.asked shelf.old + 197694 }
@@ -131,7 +131,7 @@ pub fn read_from<S: Shelf>(
     requires told { IsSizeTold (S.files shelf.old) name.now (Some size) }
     ensures files_stay { S.files shelf.new ≡ S.files shelf.old }
     ensures faults_never_fall { S.faults shelf.old ≤ S.faults shelf.new }
-    ensures misses_never_fall { S.misses shelf.old ≤ S.misses shelf.new }
+    ensures misses_stay { S.misses shelf.new ≡ S.misses shelf.old }
     ensures unread { result ≡ Err FileRefusal.Read → Rose (S.faults shelf.old) (S.faults shelf.new) }
     ensures unfailed { result ≢ Err FileRefusal.Read → S.faults shelf.new ≡ S.faults shelf.old }
     ensures asks { S.asked shelf.new ≤ S.asked shelf.old + 197694 }

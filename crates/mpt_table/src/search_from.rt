@@ -33,7 +33,7 @@ fn areas_from<S: Shelf>(shelf: &mut S, name: &str, size: u64) -> Result<ArrayVec
     requires told { IsSizeTold (S.files shelf.old) name.now (Some size) }
     ensures files_stay { S.files shelf.new ≡ S.files shelf.old }
     ensures faults_never_fall { S.faults shelf.old ≤ S.faults shelf.new }
-    ensures misses_never_fall { S.misses shelf.old ≤ S.misses shelf.new }
+    ensures misses_stay { S.misses shelf.new ≡ S.misses shelf.old }
     ensures asks { S.asked shelf.new ≤ S.asked shelf.old + 4 }
     ensures unread { OnErr result (Rose (S.faults shelf.old) (S.faults shelf.new)) }
     ensures unfailed { OnOk result (S.faults shelf.new ≡ S.faults shelf.old) }
@@ -86,7 +86,7 @@ fn area_from<S: Shelf>(
     requires area { IsAreaIn size area }
     ensures files_stay { S.files shelf.new ≡ S.files shelf.old }
     ensures faults_never_fall { S.faults shelf.old ≤ S.faults shelf.new }
-    ensures misses_never_fall { S.misses shelf.old ≤ S.misses shelf.new }
+    ensures misses_stay { S.misses shelf.new ≡ S.misses shelf.old }
     ensures asks { S.asked shelf.new ≤ S.asked shelf.old + (area.to - area.from) }
     ensures unread { result ≡ Err WindowFailure.Unread
         → Rose (S.faults shelf.old) (S.faults shelf.new) }
@@ -116,7 +116,7 @@ fn among_from<S: Shelf>(
     requires areas { AllByRecursion (IsAreaIn size) areas.now }
     ensures files_stay { S.files shelf.new ≡ S.files shelf.old }
     ensures faults_never_fall { S.faults shelf.old ≤ S.faults shelf.new }
-    ensures misses_never_fall { S.misses shelf.old ≤ S.misses shelf.new }
+    ensures misses_stay { S.misses shelf.new ≡ S.misses shelf.old }
     ensures asks { S.asked shelf.new ≤ S.asked shelf.old + area_bytes areas.now }
     ensures unread { result ≡ Err WindowFailure.Unread
         → Rose (S.faults shelf.old) (S.faults shelf.new) }
@@ -146,7 +146,7 @@ pub(crate) fn find_from<S: Shelf>(
     requires told { IsSizeTold (S.files shelf.old) name.now (Some size) }
     ensures files_stay { S.files shelf.new ≡ S.files shelf.old }
     ensures faults_never_fall { S.faults shelf.old ≤ S.faults shelf.new }
-    ensures misses_never_fall { S.misses shelf.old ≤ S.misses shelf.new }
+    ensures misses_stay { S.misses shelf.new ≡ S.misses shelf.old }
     ensures asks { S.asked shelf.new ≤ S.asked shelf.old + 66564 }
     ensures unread { result ≡ Err WindowFailure.Unread
         → Rose (S.faults shelf.old) (S.faults shelf.new) }

@@ -90,7 +90,7 @@ pub(crate) fn table_from<S: Shelf>(
     requires inside { at + 44 ≤ size }
     ensures files_stay { S.files shelf.new ≡ S.files shelf.old }
     ensures faults_never_fall { S.faults shelf.old ≤ S.faults shelf.new }
-    ensures misses_never_fall { S.misses shelf.old ≤ S.misses shelf.new }
+    ensures misses_stay { S.misses shelf.new ≡ S.misses shelf.old }
     ensures asks { S.asked shelf.new ≤ S.asked shelf.old + 131114 }
     ensures unread { result ≡ Err FileRefusal.Read → Rose (S.faults shelf.old) (S.faults shelf.new) }
     ensures unfailed { result ≢ Err FileRefusal.Read → S.faults shelf.new ≡ S.faults shelf.old }

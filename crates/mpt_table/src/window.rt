@@ -34,7 +34,7 @@ pub(crate) fn window<S: Shelf>(
     requires inside { IsInsideTold (S.files shelf.old) name.now at len }
     ensures files_stay { S.files shelf.new ≡ S.files shelf.old }
     ensures faults_never_fall { S.faults shelf.old ≤ S.faults shelf.new }
-    ensures misses_never_fall { S.misses shelf.old ≤ S.misses shelf.new }
+    ensures misses_stay { S.misses shelf.new ≡ S.misses shelf.old }
     ensures asks { S.asked shelf.new ≤ S.asked shelf.old + len }
     ensures told { IfOk result (λ bytes.
         FillsFromTold (S.files shelf.old) name.now at bytes.items) }
@@ -63,7 +63,7 @@ pub(crate) fn word_from<S: Shelf>(
     requires low { at < 2 ^ 32 }
     ensures files_stay { S.files shelf.new ≡ S.files shelf.old }
     ensures faults_never_fall { S.faults shelf.old ≤ S.faults shelf.new }
-    ensures misses_never_fall { S.misses shelf.old ≤ S.misses shelf.new }
+    ensures misses_stay { S.misses shelf.new ≡ S.misses shelf.old }
     ensures asks { S.asked shelf.new ≤ S.asked shelf.old + 2 }
     ensures told { IfOk result (λ word. IfTold (S.files shelf.old) name.now (λ image. word ≡ search_word image at)) }
     ensures unread { OnErr result (Rose (S.faults shelf.old) (S.faults shelf.new)) }

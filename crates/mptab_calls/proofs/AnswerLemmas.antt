@@ -27,8 +27,8 @@ use Rattle.mptab_calls.specs.declared.words.TablesCommand.{TablesCommand}
 use Rattle.mptab_calls.specs.declared.words.TablesCommand.TheVariants as form
 use Rattle.mptab_calls.specs.Forms.{Form, Show, Audit, Canon, Raise, Madt, Pirmake, Build, Route, Trace, Boot, Drill, Replay, Madtcmp, Pircmp, Pic, IsForm, IsInRange, form_of_still, Named, Image, Listing, Script, Report, AcpiTable, RoutingTable, Calls, files_of, form_of_tables, file_of_tables, name_of, limit_of, named_of, IsRead}
 use Rattle.mptab_calls.specs.Commands.{status_of, ImageGives, ListingGives, GivesTables, IsUnderstood, IsRefused, IsText, IsAnswerTo, IsReadyFor, IsDrillDue, no_pointer_line, fault_line, bad_line_line, unfit_line, ReportGives, bad_report_line}
-use Rattle.mptab_calls.specs.Walk.{Outside, IsDueOf, AsksOf, Reaches, IsFirstRead, most_of}
-use Rattle.mptab_calls.specs.Ending.{ending_status, ending_text, IsEnding, Shelves, shelves}
+use Rattle.mptab_calls.specs.Walk.{Outside, IsQuiet, IsDueOf, AsksOf, Reaches, IsFirstRead, most_of}
+use Rattle.mptab_calls.specs.Ending.{ending_status, ending_text, IsEnding, IsUndisturbed, Shelves, shelves}
 use Rattle.mptab_calls.specs.declared.answer.Answer.{Answer}
 use Rattle.mpt_base.specs.declared.outside.NoMemory.{NoMemory as NoMemoryUnit}
 
@@ -48,11 +48,11 @@ refused_not_absent told (Calls name) status text h three = omega (arith, three, 
 -- where the walk ends at a file that it comes to, that is due; where memory is wanting the first file is to be there
 pub ending_at : (told : Option Files) (before after : Outside) (form : Form) (file : Named) (e : Ending) → Reaches told (files_of form) file → (IsRead told file (λ bytes. Unit {0}) → IsFirstRead told (files_of form))
     → IsEnding told (shelves before.misses after.misses before.faults after.faults) file e → IsDueOf told before after form (ending_status e) (ending_text (name_of file) e)
-ending_at told before after form file Absent reaches first h = inl (inl (file, reaches, inl (refl, h.0, refl)), λ three. h.1, h.2)
+ending_at told before after form file Absent reaches first h = inl (inl (file, reaches, inl (refl, h.0, refl)), ((λ three. h.1), h.2, inl refl))
 ending_at told before after form file Unread reaches first h = inr (inl (refl, h, file, reaches, refl))
 ending_at told before after form file NoMemory reaches first h = inr (inr (refl, h.1, first h.0, refl))
-ending_at told before after form file (TooLarge size) reaches first h = inl (inl (file, reaches, inr (inl (refl, size, h.0, refl))), λ three. absurd (omega (arith, three)), h.1)
-ending_at told before after form file (Refused answer) reaches first h = inl (inl (file, reaches, inr (inr h.0)), λ three. absurd (refused_not_absent told file answer.status answer.text.items h.0 three), h.1)
+ending_at told before after form file (TooLarge size) reaches first h = inl (inl (file, reaches, inr (inl (refl, size, h.0, refl))), ((λ three. absurd (omega (arith, three))), h.1.0, inr h.1.1))
+ending_at told before after form file (Refused answer) reaches first h = inl (inl (file, reaches, inr (inr h.0)), ((λ three. absurd (refused_not_absent told file answer.status answer.text.items h.0 three)), h.1.0, inr h.1.1))
 
 -- a form over tables has one file
 files_are : (c : TablesCommand) → files_of (form_of_tables c) ≡ file_of_tables c ∷ []
@@ -91,7 +91,7 @@ source_there (Some files) (source.Image name) tables gives = read_there files (I
 source_there (Some files) (source.Listing name) tables gives = read_there files (Listing name.now) (IsListingOf tables) gives.1
 
 -- where memory is wanting behind it, that is due
-pub IsEnding-given : (told : Option Files) (before after : Outside) (s : Source) (tables : Tables) → GivesTables told s tables → after.faults ≡ before.faults → IsEnding told (shelves before.misses after.misses before.faults after.faults) (named_of s) NoMemory
+pub IsEnding-given : (told : Option Files) (before after : Outside) (s : Source) (tables : Tables) → GivesTables told s tables → IsQuiet before after → IsEnding told (shelves before.misses after.misses before.faults after.faults) (named_of s) NoMemory
 IsEnding-given told before after s tables gives kept = (source_there told s tables gives, kept)
 
 -- and it is understood
@@ -151,11 +151,11 @@ text_given told (form.Route image elcr) (source.Image name) tables status text i
 text_given told (form.Route image elcr) (source.Listing name) tables status text is gives w low h = absurd cc
 
 -- so it is due
-pub IsAnswerTo-due : (told : Option Files) (before after : Outside) (c : TablesCommand) (s : Source) (tables : Tables) (status : ℕ) (text : List ℕ) → named_of s ≡ file_of_tables c → GivesTables told s tables → IsWellFormed tables → tables.at < 2 ^ 32 → after.faults ≡ before.faults
+pub IsAnswerTo-due : (told : Option Files) (before after : Outside) (c : TablesCommand) (s : Source) (tables : Tables) (status : ℕ) (text : List ℕ) → named_of s ≡ file_of_tables c → GivesTables told s tables → IsWellFormed tables → tables.at < 2 ^ 32 → IsQuiet before after
     → IsAnswerTo c tables status text → IsDueOf told before after (form_of_tables c) status text
 IsAnswerTo-due told before after c s tables status text is gives low_form low kept answer =
     let understood : AllByRecursion (IsUnderstood told) (files_of (form_of_tables c)) = subst (λ (fs : List Named). AllByRecursion (IsUnderstood told) fs) (sym (one_file c (named_of s) is)) (source_understood told s tables gives, tt) in
-    inl (inr (understood, text_given told c s tables status text is gives low_form low answer), λ three. absurd (not_absent c tables status text answer three), kept)
+    inl (inr (understood, text_given told c s tables status text is gives low_form low answer), ((λ three. absurd (not_absent c tables status text answer three)), kept.0, inr kept.1))
 
 -- that file is all that is asked for
 pub AsksOf-source : (told : Option Files) (c : TablesCommand) (file : Named) (before after : ℕ) → file ≡ file_of_tables c → after ≤ before + most_of told file → (n : ℕ) × (after ≤ before + n) × AsksOf told (files_of (form_of_tables c)) n
@@ -183,7 +183,7 @@ IsRead-there (Some files) file size is within = held (files (name_of file)) is
     held (Some bytes) e = let same : size ≡ length bytes = cc in (omega (arith, same, within), tt)
 
 -- a refusal with this status and line, or want of memory for it
-pub IsEnding-refused : (told : Option Files) (s : Shelves) (file : Named) (answer : Result Answer NoMemoryUnit) (e : Ending) (status : ℕ) (text : List ℕ) → IsRefused told file status text → IsRead told file (λ bytes. Unit {0}) → s.faults_after ≡ s.faults
+pub IsEnding-refused : (told : Option Files) (s : Shelves) (file : Named) (answer : Result Answer NoMemoryUnit) (e : Ending) (status : ℕ) (text : List ℕ) → IsRefused told file status text → IsRead told file (λ bytes. Unit {0}) → IsUndisturbed s
     → IfOk answer (λ a. (a.status ≡ status) × (a.text.items ≡ text)) → IfOk answer (λ a. e ≡ Refused a) → IfErr answer (λ m. e ≡ NoMemory) → IsEnding told s file e
 IsEnding-refused told s file (Ok a) e status text refused there kept is ok err =
     subst (IsEnding told s file) (sym ok) (subst (λ (t : List ℕ). IsRefused told file a.status t) (sym is.1) (subst (λ (n : ℕ). IsRefused told file n text) (sym is.0) refused), kept)
@@ -231,8 +231,8 @@ IsRefused-report told name size n bytes why is within same bad = (refl, n, why, 
 -- ---- a drill
 
 -- what a drill comes to is due
-pub IsDrillDue-due : (told : Option Files) (before after : Outside) (n status : ℕ) (text : List ℕ) → after.faults ≡ before.faults → IsDrillDue n status text → IsDueOf told before after (Drill n) status text
-IsDrillDue-due told before after n status text kept (inl h) = inl (inr (tt, h), (λ three. absurd (omega (arith, three, h.0))), kept)
+pub IsDrillDue-due : (told : Option Files) (before after : Outside) (n status : ℕ) (text : List ℕ) → IsQuiet before after → IsDrillDue n status text → IsDueOf told before after (Drill n) status text
+IsDrillDue-due told before after n status text kept (inl h) = inl (inr (tt, h), ((λ three. absurd (omega (arith, three, h.0))), kept.0, inr kept.1))
 IsDrillDue-due told before after n status text kept (inr h) = inr (inr (h.0, kept, tt, h.1))
 
 -- its number is in range

@@ -38,24 +38,28 @@ use Rattle.mptab_calls.specs.Texts.{no_memory_line}
 use Rattle.mptab_calls.specs.Boards.{IsDescribed, IsBoardGiven, IsBoardEnding, HasAskedForEnd, board_ending_status, board_ending_text}
 use Rattle.mptab_calls.specs.Forms.{Form, Trace, Boot, Replay, Pic, Named, Image, Script, files_of, name_of, limit_of, IsRead}
 use Rattle.mptab_calls.specs.Commands.{ImageGives, ScriptGives, WithBoard, IsUnderstood, IsRefused, IsText, IsGivenBoard, ReportGives, IsJudged, verdict_status, CallsGive}
-use Rattle.mptab_calls.specs.Walk.{Outside, IsDueOf, AsksOf, Reaches, IsFirstRead, most_of}
-use Rattle.mptab_calls.specs.Ending.{ending_status, ending_text, IsEnding, Shelves, shelves}
+use Rattle.mptab_calls.specs.Walk.{Outside, IsQuiet, IsDueOf, AsksOf, Reaches, IsFirstRead, most_of}
+use Rattle.mptab_calls.specs.Ending.{ending_status, ending_text, IsEnding, IsUndisturbed, Shelves, shelves}
 use Rattle.mptab_calls.proofs.AnswerLemmas.{ending_at, IsRead-bytes, IsRead-there, IsEnding-refused, read_there}
 
 -- what is due behind an earlier moment, since which no read failed and no file was missed
-pub IsDueOf-earlier : (told : Option Files) (first before after : Outside) (form : Form) (status : ℕ) (text : List ℕ) → first.misses ≤ before.misses → before.faults ≡ first.faults → IsDueOf told before after form status text → IsDueOf told first after form status text
-IsDueOf-earlier told first before after form status text misses kept (inl h) = inl (h.0, (λ three. (let r = h.1 three in omega (arith, r, misses))), h.2 ∙ kept)
-IsDueOf-earlier told first before after form status text misses kept (inr (inl h)) = inr (inl (h.0, subst (λ n. Rose n after.faults) kept h.1, h.2, h.3, h.4))
-IsDueOf-earlier told first before after form status text misses kept (inr (inr h)) = inr (inr (h.0, h.1 ∙ kept, h.2, h.3))
+pub IsDueOf-earlier : (told : Option Files) (first before after : Outside) (form : Form) (status : ℕ) (text : List ℕ) → IsQuiet first before → IsDueOf told before after form status text → IsDueOf told first after form status text
+IsDueOf-earlier told first before after form status text quiet (inl h) = inl (h.0, ((λ three. subst (λ n. Rose n after.misses) quiet.1 (h.1.0 three)), h.1.1 ∙ quiet.0, since h.1.2))
+  where
+    since : (status ≡ 3) ⊎ (after.misses ≡ before.misses) → (status ≡ 3) ⊎ (after.misses ≡ first.misses)
+    since (inl three) = inl three
+    since (inr same) = inr (same ∙ quiet.1)
+IsDueOf-earlier told first before after form status text quiet (inr (inl h)) = inr (inl (h.0, (subst (λ n. Rose n after.faults) quiet.0 h.1.0, h.1.1 ∙ quiet.1), h.2, h.3, h.4))
+IsDueOf-earlier told first before after form status text quiet (inr (inr h)) = inr (inr (h.0, (h.1.0 ∙ quiet.0, h.1.1 ∙ quiet.1), h.2, h.3))
 
 -- an ending that is met behind an earlier moment, since which no read failed and no file was missed
-pub IsEnding-earlier : (told : Option Files) (misses misses-between misses-after faults faults-between faults-after : ℕ) (file : Named) (e : Ending) → misses ≤ misses-between → faults-between ≡ faults
+pub IsEnding-earlier : (told : Option Files) (misses misses-between misses-after faults faults-between faults-after : ℕ) (file : Named) (e : Ending) → IsUndisturbed (shelves misses misses-between faults faults-between)
     → IsEnding told (shelves misses-between misses-after faults-between faults-after) file e → IsEnding told (shelves misses misses-after faults faults-after) file e
-IsEnding-earlier told m mb ma f fb fa file Absent le kept h = (h.0, (let r = h.1 in omega (arith, r, le)), h.2 ∙ kept)
-IsEnding-earlier told m mb ma f fb fa file Unread le kept h = subst (λ n. Rose n fa) kept h
-IsEnding-earlier told m mb ma f fb fa file (Refused answer) le kept h = (h.0, h.1 ∙ kept)
-IsEnding-earlier told m mb ma f fb fa file NoMemory le kept h = (h.0, h.1 ∙ kept)
-IsEnding-earlier told m mb ma f fb fa file (TooLarge size) le kept h = (h.0, h.1 ∙ kept)
+IsEnding-earlier told m mb ma f fb fa file Absent quiet h = (h.0, subst (λ n. Rose n ma) quiet.1 h.1, h.2 ∙ quiet.0)
+IsEnding-earlier told m mb ma f fb fa file Unread quiet h = (subst (λ n. Rose n fa) quiet.0 h.0, h.1 ∙ quiet.1)
+IsEnding-earlier told m mb ma f fb fa file (Refused answer) quiet h = (h.0, (h.1.0 ∙ quiet.0, h.1.1 ∙ quiet.1))
+IsEnding-earlier told m mb ma f fb fa file NoMemory quiet h = (h.0, (h.1.0 ∙ quiet.0, h.1.1 ∙ quiet.1))
+IsEnding-earlier told m mb ma f fb fa file (TooLarge size) quiet h = (h.0, (h.1.0 ∙ quiet.0, h.1.1 ∙ quiet.1))
 
 -- an image that gives tables is there
 pub image-there : (told : Option Files) (image : List ℕ) (tables : Tables) → ImageGives told image tables → IsRead told (Image image) (λ bytes. Unit {0})
@@ -80,7 +84,7 @@ module _ (told : Option Files) (form : Form) (image script : List ℕ) (tail : L
   board-ends before after (AtScript e) h = ending_at told before after form (Script image script) e (reaches-script h.1 h.2) (λ there. first-there (image-there told image h.1 h.2)) h.0
 
   -- and where memory is wanting behind them, that
-  pub board-unmade : (before after : Outside) (c : Plan) → IsBoardGiven told image script c → after.faults ≡ before.faults → IsDueOf told before after form 9 no_memory_line
+  pub board-unmade : (before after : Outside) (c : Plan) → IsBoardGiven told image script c → IsQuiet before after → IsDueOf told before after form 9 no_memory_line
   board-unmade before after c given kept = inr (inr (refl, kept, first-there (image-there told image given.tables given.described.gives), refl))
 
   -- what is asked for
@@ -101,17 +105,17 @@ module _ (told : Option Files) (form : Form) (image script : List ℕ) (tail : L
         (inr ((h.1, h.2), most_of told (Image image), most_of told (Script image script), refl, omega arith, inl (omega arith))),
   )
 
-module _ (told : Option Files) (image script : List ℕ) (before after : Outside) (c : Plan) (text : List ℕ) (given : IsBoardGiven told image script c) (kept : after.faults ≡ before.faults) where
+module _ (told : Option Files) (image script : List ℕ) (before after : Outside) (c : Plan) (text : List ℕ) (given : IsBoardGiven told image script c) (kept : IsQuiet before after) where
   -- both files are understood
   understood : AllByRecursion (IsUnderstood told) (Image image ∷ Script image script ∷ [])
   understood = ((given.tables, given.described.gives), ((given.tables, given.described.well_formed, given.described.gives, given.described.board.script, given.described.board.gives, given.described.board.sound), tt))
 
   -- the report is due
   pub trace-due : IsTraceOf c text → IsDueOf told before after (Trace image script) 0 text
-  trace-due t = inl (inr (understood, (given.tables, given.described.well_formed, given.described.low, given.described.gives, (given.described.board.script, given.described.board.gives, given.described.board.sound, (refl, subst (λ (p : Plan). IsTraceOf p text) given.described.board.config t)))), (λ three. absurd (omega (arith, three))), kept)
+  trace-due t = inl (inr (understood, (given.tables, given.described.well_formed, given.described.low, given.described.gives, (given.described.board.script, given.described.board.gives, given.described.board.sound, (refl, subst (λ (p : Plan). IsTraceOf p text) given.described.board.config t)))), ((λ three. absurd (omega (arith, three))), kept.0, inr kept.1))
 
   pub boot-due : ((page : ℕ) → IsStartableAt page c → IsBootOf page c text) → IsDueOf told before after (Boot image script) 0 text
-  boot-due t = inl (inr (understood, (given.tables, given.described.well_formed, given.described.low, given.described.gives, (given.described.board.script, given.described.board.gives, given.described.board.sound, (refl, subst (λ (p : Plan). IsBootOf given.described.board.script.page p text) given.described.board.config (t given.described.board.script.page given.described.board.startable))))), (λ three. absurd (omega (arith, three))), kept)
+  boot-due t = inl (inr (understood, (given.tables, given.described.well_formed, given.described.low, given.described.gives, (given.described.board.script, given.described.board.gives, given.described.board.sound, (refl, subst (λ (p : Plan). IsBootOf given.described.board.script.page p text) given.described.board.config (t given.described.board.script.page given.described.board.startable))))), ((λ three. absurd (omega (arith, three))), kept.0, inr kept.1))
 
 -- ---- a replay
 
@@ -141,13 +145,13 @@ module _ (told : Option Files) (form : Form) (image script : List ℕ) (third : 
   third-ends before after e h = ending_at told before after form third e reaches-third (λ there. image-first) h
 
   -- and where memory is wanting behind it, that
-  pub third-unmade : (before after : Outside) → after.faults ≡ before.faults → IsDueOf told before after form 9 no_memory_line
+  pub third-unmade : (before after : Outside) → IsQuiet before after → IsDueOf told before after form 9 no_memory_line
   third-unmade before after kept = inr (inr (refl, kept, image-first, refl))
 
   -- and its text where each file is understood
-  pub third-due : (before after : Outside) (status : ℕ) (text : List ℕ) → after.faults ≡ before.faults → IsUnderstood told third → ¬ (status ≡ 3) → IsText told form status text → IsDueOf told before after form status text
+  pub third-due : (before after : Outside) (status : ℕ) (text : List ℕ) → IsQuiet before after → IsUnderstood told third → ¬ (status ≡ 3) → IsText told form status text → IsDueOf told before after form status text
   third-due before after status text kept understood not-absent is =
-      inl (inr (subst (λ fs. AllByRecursion (IsUnderstood told) fs) (sym files-are) ((tables, given.gives), (script-understood, (understood, tt))), is), (λ three. absurd (not-absent three)), kept)
+      inl (inr (subst (λ fs. AllByRecursion (IsUnderstood told) fs) (sym files-are) ((tables, given.gives), (script-understood, (understood, tt))), is), ((λ three. absurd (not-absent three)), kept.0, inr kept.1))
 
   -- what is asked for
   pub asks-third : (before between after : ℕ) → between ≤ before + (most_of told (Image image) + most_of told (Script image script)) → after ≤ between + most_of told third → (n : ℕ) × (after ≤ before + n) × AsksOf told (files_of form) n
@@ -186,7 +190,7 @@ played-text told image script calls tables c given ops text lists played =
 -- ---- a script
 
 -- a refusal with this status and line, or want of memory for it; the line is there where something is at fault
-refused_or : (told : Option Files) (s : Shelves) (file : Named) (answer : Result Answer NoMemoryUnit) (e : Ending) (status : ℕ) (text : List ℕ) (Q : Type 0) → (Q → IsRefused told file status text) → IsRead told file (λ bytes. Unit {0}) → s.faults_after ≡ s.faults
+refused_or : (told : Option Files) (s : Shelves) (file : Named) (answer : Result Answer NoMemoryUnit) (e : Ending) (status : ℕ) (text : List ℕ) (Q : Type 0) → (Q → IsRefused told file status text) → IsRead told file (λ bytes. Unit {0}) → IsUndisturbed s
     → IfOk answer (λ a. (a.status ≡ status) × (a.text.items ≡ text) × Q) → IfOk answer (λ a. e ≡ Refused a) → IfErr answer (λ m. e ≡ NoMemory) → IsEnding told s file e
 refused_or told s file (Ok a) e status text Q refused there kept is ok err = IsEnding-refused told s file (Ok a) e status text (refused is.2) there kept (is.0, is.1) ok err
 refused_or told s file (Err m) e status text Q refused there kept is ok err = subst (IsEnding told s file) (sym err) (there, kept)
@@ -209,7 +213,7 @@ board-fault p s (board_fault.ManyIo n) h some = h
 board-fault p s (board_fault.NoIo place) h some = h
 board-fault p s board_fault.NoMemory h some = absurd some
 
-module _ (told : Option Files) (s : Shelves) (image name : List ℕ) (size : ℕ) (bytes : List ℕ) (is : IsSizeTold told name (Some size)) (within : size ≤ limit_of (Script image name)) (same : IfTold told name (λ held. held ≡ bytes)) (kept : s.faults_after ≡ s.faults) where
+module _ (told : Option Files) (s : Shelves) (image name : List ℕ) (size : ℕ) (bytes : List ℕ) (is : IsSizeTold told name (Some size)) (within : size ≤ limit_of (Script image name)) (same : IfTold told name (λ held. held ≡ bytes)) (kept : IsUndisturbed s) where
   there : IsRead told (Script image name) (λ bytes. Unit {0})
   there = IsRead-there told (Script image name) size is within
 

@@ -7,17 +7,17 @@ use Rattle.mptab_calls.specs.declared.words.StillCommand.TheVariants as still
 use Rattle.mptab_calls.specs.declared.words.TablesCommand.{TablesCommand}
 use Rattle.mptab_calls.specs.declared.words.TablesCommand.TheVariants as tables
 use Rattle.mptab_calls.specs.Commands.{IsRefused, IsText}
-use Rattle.mptab_calls.specs.Walk.{Outside, IsDueOf, Answers, IsComplete, TellsFailures, IsNoForm}
+use Rattle.mptab_calls.specs.Walk.{Outside, IsDueOf, Answers, IsComplete, TellsFailures, TellsMisses, IsNoForm}
 use Rattle.mptab_calls.proofs.FormReading.{same_form}
 use Rattle.mptab_calls.specs.Causes.{Cause, Done, Usage, NoFile, CannotRead, CannotWrite, Refused, NoMemory, TooLarge}
 
 -- what is due to a form, in its row
 form_cause : (listed : Form → Type 0) (told : Option Files) (before after : Outside) (words : List (List ℕ)) (result status : ℕ) (text : List ℕ) (form : Form) → result ≡ status → listed form → IsForm form words → IsDueOf told before after form status text → Cause listed told before after words result
-form_cause listed told before after words result status text form e l is (inl (inl (file, reached, inl a), m, kept)) = NoFile (e ∙ a.0) (m a.0) (form, l, is, (file, reached, a.1))
-form_cause listed told before after words result status text form e l is (inl (inl (file, reached, inr (inl a)), m, kept)) = TooLarge (e ∙ a.0) (form, l, is, (file, reached, (a.1, a.2)))
-form_cause listed told before after words result status text form e l is (inl (inl (file, reached, inr (inr a)), m, kept)) = Refused (form, l, is, (file, reached, (text, subst (λ (k : ℕ). IsRefused told file k text) (sym e) a)))
-form_cause listed told before after words result status text form e l is (inl (inr a, m, kept)) = Done (form, l, is, (a.0, text, subst (λ (k : ℕ). IsText told form k text) (sym e) a.1))
-form_cause listed told before after words result status text form e l is (inr (inl a)) = CannotRead (e ∙ a.0) a.1 (form, l, is, (a.2, a.3, tt))
+form_cause listed told before after words result status text form e l is (inl (inl (file, reached, inl a), counted)) = NoFile (e ∙ a.0) (counted.0 a.0) (form, l, is, (file, reached, a.1))
+form_cause listed told before after words result status text form e l is (inl (inl (file, reached, inr (inl a)), counted)) = TooLarge (e ∙ a.0) (form, l, is, (file, reached, (a.1, a.2)))
+form_cause listed told before after words result status text form e l is (inl (inl (file, reached, inr (inr a)), counted)) = Refused (form, l, is, (file, reached, (text, subst (λ (k : ℕ). IsRefused told file k text) (sym e) a)))
+form_cause listed told before after words result status text form e l is (inl (inr a, counted)) = Done (form, l, is, (a.0, text, subst (λ (k : ℕ). IsText told form k text) (sym e) a.1))
+form_cause listed told before after words result status text form e l is (inr (inl a)) = CannotRead (e ∙ a.0) a.1.0 (form, l, is, (a.2, a.3, tt))
 form_cause listed told before after words result status text form e l is (inr (inr a)) = NoMemory (e ∙ a.0) (form, l, is, a.2)
 
 -- an answer that was given has its status's cause
@@ -31,16 +31,28 @@ pub Answers-whole : (listed : Form → Type 0) (told : Option Files) (before aft
 Answers-whole listed told before after words result (s, t, due, inr d) = λ r w. absurd (w d.1)
 Answers-whole listed told before after words result (s, t, inl u, inl d) = λ r w. inl (t, inl (u.0.0, d.0 ∙ u.0.1, u.0.2), d.2)
 Answers-whole listed told before after words result (s, t, inr (form, l, is, inl x), inl d) = λ r w. inl (t, inr (form, l, is, rw (d.0) x.0), d.2)
-Answers-whole listed told before after words result (s, t, inr (form, l, is, inr (inl x)), inl d) = λ r w. absurd (r x.1)
+Answers-whole listed told before after words result (s, t, inr (form, l, is, inr (inl x)), inl d) = λ r w. absurd (r x.1.0)
 Answers-whole listed told before after words result (s, t, inr (form, l, is, inr (inr x)), inl d) = λ r w. inr (d.0 ∙ x.0, rw (← x.3) d.2)
 
 -- no failure is hidden behind an answer
 pub Answers-failures : (listed : Form → Type 0) (told : Option Files) (before after : Outside) (words : List (List ℕ)) (result : ℕ) → Answers listed told before after words result → TellsFailures before after result
 Answers-failures listed told before after words result (s, t, due, inr d) = record { reads = inr (inl d.0); writes = inl d.0 }
-Answers-failures listed told before after words result (s, t, inl u, inl d) = record { reads = inr (inr u.1); writes = inr d.1 }
-Answers-failures listed told before after words result (s, t, inr (form, l, is, inl x), inl d) = record { reads = inr (inr x.2); writes = inr d.1 }
+Answers-failures listed told before after words result (s, t, inl u, inl d) = record { reads = inr (inr u.1.0); writes = inr d.1 }
+Answers-failures listed told before after words result (s, t, inr (form, l, is, inl x), inl d) = record { reads = inr (inr x.1.1); writes = inr d.1 }
 Answers-failures listed told before after words result (s, t, inr (form, l, is, inr (inl x)), inl d) = record { reads = inl (d.0 ∙ x.0); writes = inr d.1 }
-Answers-failures listed told before after words result (s, t, inr (form, l, is, inr (inr x)), inl d) = record { reads = inr (inr x.1); writes = inr d.1 }
+Answers-failures listed told before after words result (s, t, inr (form, l, is, inr (inr x)), inl d) = record { reads = inr (inr x.1.0); writes = inr d.1 }
+
+-- nor a file that isn't there
+pub Answers-misses : (listed : Form → Type 0) (told : Option Files) (before after : Outside) (words : List (List ℕ)) (result : ℕ) → Answers listed told before after words result → TellsMisses before after result
+Answers-misses listed told before after words result (s, t, due, inr d) = inr (inl d.0)
+Answers-misses listed told before after words result (s, t, inl u, inl d) = inr (inr u.1.1)
+Answers-misses listed told before after words result (s, t, inr (form, l, is, inl x), inl d) = missed x.1.2
+  where
+    missed : (s ≡ 3) ⊎ (after.misses ≡ before.misses) → TellsMisses before after result
+    missed (inl three) = inl (d.0 ∙ three)
+    missed (inr same) = inr (inr same)
+Answers-misses listed told before after words result (s, t, inr (form, l, is, inr (inl x)), inl d) = inr (inr x.1.1)
+Answers-misses listed told before after words result (s, t, inr (form, l, is, inr (inr x)), inl d) = inr (inr x.1.1)
 
 -- ---- forms that need no threads
 

@@ -10,7 +10,7 @@ use Rattle.mptab_calls.specs.declared.ending.Ending.TheVariants.{Absent, TooLarg
 use Rattle.mptab_calls.specs.Forms.{Named, name_of, limit_of, most_asked, IsRead}
 use Rattle.mptab_calls.specs.Commands.{IsRefused}
 use Rattle.mptab_calls.specs.Walk.{most_of, most_of_held}
-use Rattle.mptab_calls.specs.Ending.{IsEnding, Shelves, shelves}
+use Rattle.mptab_calls.specs.Ending.{IsEnding, IsUndisturbed, Shelves, shelves}
 use Rattle.mptab_calls.specs.Limited.{IsHeldWithin, IsUnreadEnding, most_held, most_within, IsRefusedBy}
 use Rattle.mptab_calls.proofs.AnswerLemmas.{IsRead-bytes, IsRead-there}
 
@@ -20,7 +20,7 @@ module _ (told : Option Files) (file : Named) (bytes : List ℕ) (held : IsHeldW
   held-read P p = IsRead-bytes told file (length bytes) bytes P held.size held.within held.held p
 
   -- and what they are refused for it is refused for
-  pub held-ends : (s : Shelves) (e : Ending) (refuses : ℕ → List ℕ → Type 0) → s.faults_after ≡ s.faults → ((status : ℕ) (text : List ℕ) → refuses status text → IsRefused told file status text) → IsRefusedBy refuses e → IsEnding told s file e
+  pub held-ends : (s : Shelves) (e : Ending) (refuses : ℕ → List ℕ → Type 0) → IsUndisturbed s → ((status : ℕ) (text : List ℕ) → refuses status text → IsRefused told file status text) → IsRefusedBy refuses e → IsEnding told s file e
   held-ends s (Refused answer) refuses kept refused h = (refused answer.status answer.text.items h, kept)
   held-ends s NoMemory refuses kept refused h = (IsRead-there told file (length bytes) held.size held.within, kept)
   held-ends s Absent refuses kept refused h = absurd h
@@ -32,7 +32,7 @@ module _ (told : Option Files) (file : Named) (bytes : List ℕ) (held : IsHeldW
   held-taken (Ok x) P h = held-read (P x) h
   held-taken (Err e) P h = tt
 
-  pub held-ended : {X : Type 0} (r : Result X Ending) (s : Shelves) (refuses : ℕ → List ℕ → Type 0) → s.faults_after ≡ s.faults → ((status : ℕ) (text : List ℕ) → refuses status text → IsRefused told file status text) → IfErr r (IsRefusedBy refuses) → IfErr r (IsEnding told s file)
+  pub held-ended : {X : Type 0} (r : Result X Ending) (s : Shelves) (refuses : ℕ → List ℕ → Type 0) → IsUndisturbed s → ((status : ℕ) (text : List ℕ) → refuses status text → IsRefused told file status text) → IfErr r (IsRefusedBy refuses) → IfErr r (IsEnding told s file)
   held-ended (Ok x) s refuses kept refused h = tt
   held-ended (Err e) s refuses kept refused h = held-ends s e refuses kept refused h
 
@@ -40,18 +40,18 @@ module _ (told : Option Files) (file : Named) (bytes : List ℕ) (held : IsHeldW
 pub absent-at : (told : Option Files) (s : Shelves) (name : List ℕ) (file : Named) → name_of file ≡ name → IsSizeTold told name None → Rose s.misses s.misses_after → s.faults_after ≡ s.faults → IsEnding told s file Absent
 absent-at told s name file e absent missed kept = (subst (λ (n : List ℕ). IsSizeTold told n None) (sym e) absent, missed, kept)
 
-pub large-at : (told : Option Files) (s : Shelves) (name : List ℕ) (limit size : ℕ) (file : Named) → name_of file ≡ name → limit_of file ≡ limit → IsSizeTold told name (Some size) → limit < size → s.faults_after ≡ s.faults → IsEnding told s file (TooLarge size)
+pub large-at : (told : Option Files) (s : Shelves) (name : List ℕ) (limit size : ℕ) (file : Named) → name_of file ≡ name → limit_of file ≡ limit → IsSizeTold told name (Some size) → limit < size → IsUndisturbed s → IsEnding told s file (TooLarge size)
 large-at told s name limit size file e l is large kept = ((subst (λ (n : List ℕ). IsSizeTold told n (Some size)) (sym e) is, omega (arith, l, large)), kept)
 
-pub unread-at : {X : Type 0} (r : Result X Ending) (told : Option Files) (misses misses-after faults between after : ℕ) (name : List ℕ) (limit size : ℕ) (file : Named) → name_of file ≡ name → limit_of file ≡ limit → IsSizeTold told name (Some size) → size ≤ limit → between ≡ faults
-    → IfErr r (IsUnreadEnding between after) → IfErr r (IsEnding told (shelves misses misses-after faults after) file)
-unread-at (Ok x) told m ma f b a name limit size file e l is within kept h = tt
-unread-at (Err Unread) told m ma f b a name limit size file e l is within kept h = subst (λ (n : ℕ). Rose n a) kept h
-unread-at (Err NoMemory) told m ma f b a name limit size file e l is within kept h =
-    (IsRead-there told file size (subst (λ (n : List ℕ). IsSizeTold told n (Some size)) (sym e) is) (omega (arith, l, within)), h ∙ kept)
-unread-at (Err Absent) told m ma f b a name limit size file e l is within kept h = absurd h
-unread-at (Err (TooLarge n)) told m ma f b a name limit size file e l is within kept h = absurd h
-unread-at (Err (Refused answer)) told m ma f b a name limit size file e l is within kept h = absurd h
+pub unread-at : {X : Type 0} (r : Result X Ending) (told : Option Files) (misses misses-between misses-after faults faults-between faults-after : ℕ) (name : List ℕ) (limit size : ℕ) (file : Named) → name_of file ≡ name → limit_of file ≡ limit → IsSizeTold told name (Some size) → size ≤ limit
+    → faults-between ≡ faults → misses-between ≡ misses → IfErr r (IsUnreadEnding (shelves misses-between misses-after faults-between faults-after)) → IfErr r (IsEnding told (shelves misses misses-after faults faults-after) file)
+unread-at (Ok x) told m mb ma f fb fa name limit size file e l is within unfailed found h = tt
+unread-at (Err Unread) told m mb ma f fb fa name limit size file e l is within unfailed found h = (subst (λ (n : ℕ). Rose n fa) unfailed h.0, h.1 ∙ found)
+unread-at (Err NoMemory) told m mb ma f fb fa name limit size file e l is within unfailed found h =
+    (IsRead-there told file size (subst (λ (n : List ℕ). IsSizeTold told n (Some size)) (sym e) is) (omega (arith, l, within)), (h.0 ∙ unfailed, h.1 ∙ found))
+unread-at (Err Absent) told m mb ma f fb fa name limit size file e l is within unfailed found h = absurd h
+unread-at (Err (TooLarge n)) told m mb ma f fb fa name limit size file e l is within unfailed found h = absurd h
+unread-at (Err (Refused answer)) told m mb ma f fb fa name limit size file e l is within unfailed found h = absurd h
 
 -- of a file that is read within its limit no more is asked for than its size
 pub asks-within : (told : Option Files) (name : List ℕ) (limit size before after : ℕ) → IsSizeTold told name (Some size) → size ≤ limit → after ≤ before + size → after ≤ before + most_within told name limit

@@ -7,7 +7,7 @@ use Rattle.mptab_calls.specs.declared.ending.Ending.{Ending}
 use Rattle.mptab_calls.specs.Texts.{no_memory_line}
 use Rattle.mptab_calls.specs.Forms.{Form, Named, Image, files_of, name_of}
 use Rattle.mptab_calls.specs.Commands.{ImageGives, IsUnderstood, IsText, status_of}
-use Rattle.mptab_calls.specs.Walk.{Outside, IsDueOf, AsksOf, Reaches, IsFirstRead, most_of}
+use Rattle.mptab_calls.specs.Walk.{Outside, IsQuiet, IsDueOf, AsksOf, Reaches, IsFirstRead, most_of}
 use Rattle.mptab_calls.specs.Ending.{ending_status, ending_text, IsEnding, shelves}
 use Rattle.mptab_calls.proofs.AnswerLemmas.{ending_at}
 use Rattle.mptab_calls.proofs.BoardLemmas.{image-there}
@@ -34,13 +34,13 @@ module _ (told : Option Files) (form : Form) (image : List ℕ) (second : Named)
     second-ends before after e h = ending_at told before after form second e reaches-second (λ there. image-first) h
 
     -- and where memory is wanting behind it, that
-    pub second-unmade : (before after : Outside) → after.faults ≡ before.faults → IsDueOf told before after form 9 no_memory_line
+    pub second-unmade : (before after : Outside) → IsQuiet before after → IsDueOf told before after form 9 no_memory_line
     second-unmade before after kept = inr (inr (refl, kept, image-first, refl))
 
     -- and its text where both files are understood
-    pub second-due : (before after : Outside) (status : ℕ) (text : List ℕ) → after.faults ≡ before.faults → IsUnderstood told second → ¬ (status ≡ 3) → IsText told form status text → IsDueOf told before after form status text
+    pub second-due : (before after : Outside) (status : ℕ) (text : List ℕ) → IsQuiet before after → IsUnderstood told second → ¬ (status ≡ 3) → IsText told form status text → IsDueOf told before after form status text
     second-due before after status text kept understood not-absent is =
-        inl (inr (subst (λ fs. AllByRecursion (IsUnderstood told) fs) (sym files-are) ((tables, gives), (understood, tt)), is), (λ three. absurd (not-absent three)), kept)
+        inl (inr (subst (λ fs. AllByRecursion (IsUnderstood told) fs) (sym files-are) ((tables, gives), (understood, tt)), is), ((λ three. absurd (not-absent three)), kept.0, inr kept.1))
 
     -- what is asked for
     pub asks-second : (before between after : ℕ) → between ≤ before + most_of told (Image image) → after ≤ between + most_of told second → (n : ℕ) × (after ≤ before + n) × AsksOf told (files_of form) n

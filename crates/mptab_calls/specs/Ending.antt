@@ -1,8 +1,11 @@
 -- Why the walk ends at a file, as code says it. Only private functions of the crate cite this.
 --     ending_status e, ending_text name e    the status, and the line for a file of this name
 --     IsEnding told s file e                 the walk ends at the file for this reason
+--     shelves_of S before after              the counts of a shelf at two moments
+--     IsUndisturbed s                        no call failed between them, and no file was missed
 use Rattle.std.specs.Prelude.{◌≡◌, ℕ, List, Option, ⊤}
 use Rattle.mpt_base.specs.Outside.{Files, Rose}
+use Rattle.mpt_base.specs.declared.outside.Shelf.{Ghosts as ShelfOf}
 use Rattle.mptab_calls.specs.declared.ending.Ending.{Ending}
 use Rattle.mptab_calls.specs.declared.ending.Ending.TheVariants.{Absent, TooLarge, Unread, Refused, NoMemory}
 use Rattle.mptab_calls.specs.Texts.{no_file_line, cannot_read_line, no_memory_line, too_large_line}
@@ -34,10 +37,18 @@ pub record Shelves : Type 0 where
 abbrev pub shelves : ℕ → ℕ → ℕ → ℕ → Shelves
 shelves misses misses_after faults faults_after = record { misses = misses; misses_after = misses_after; faults = faults; faults_after = faults_after }
 
+-- the counts of a shelf at two moments
+abbrev pub shelves_of : {X : Type 0} → ShelfOf X → X → X → Shelves
+shelves_of S before after = shelves (S.misses before) (S.misses after) (S.faults before) (S.faults after)
+
+-- no call of the shelf failed between the two moments, and none said that a file isn't there
+abbrev pub IsUndisturbed : Shelves → Type 0
+IsUndisturbed s = (s.faults_after ≡ s.faults) × (s.misses_after ≡ s.misses)
+
 -- what the walk meets at the file: why it ends there, and the counts of the shelf
 abbrev pub IsEnding : Option Files → Shelves → Named → Ending → Type 0
 IsEnding told s file Absent = IsAbsent told file × Rose s.misses s.misses_after × (s.faults_after ≡ s.faults)
-IsEnding told s file Unread = Rose s.faults s.faults_after
-IsEnding told s file (Refused answer) = IsRefused told file answer.status answer.text.items × (s.faults_after ≡ s.faults)
-IsEnding told s file NoMemory = IsRead told file (λ bytes. ⊤) × (s.faults_after ≡ s.faults)
-IsEnding told s file (TooLarge size) = IsTooLarge told file size × (s.faults_after ≡ s.faults)
+IsEnding told s file Unread = Rose s.faults s.faults_after × (s.misses_after ≡ s.misses)
+IsEnding told s file (Refused answer) = IsRefused told file answer.status answer.text.items × IsUndisturbed s
+IsEnding told s file NoMemory = IsRead told file (λ bytes. ⊤) × IsUndisturbed s
+IsEnding told s file (TooLarge size) = IsTooLarge told file size × IsUndisturbed s

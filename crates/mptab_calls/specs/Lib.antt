@@ -3,6 +3,7 @@ pub mod Forms
 pub mod Commands
 pub mod Walk
 pub mod Causes
+pub mod TopCall
 pub mod Ending
 pub mod Limited
 pub mod File

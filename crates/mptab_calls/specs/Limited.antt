@@ -1,7 +1,7 @@
 -- A file that is read whole, as code says it. Only private functions of the crate cite this.
 --     IsHeldWithin told name limit bytes    where the files are told, these are the bytes of the file of that name; they are within the limit
 --     most_within told name limit           the most bytes that are asked for of a file of that name and limit
---     IsUnreadEnding faults after e         the walk ends since the shelf failed, or for want of memory
+--     IsUnreadEnding s e                    the walk ends since the shelf failed, or for want of memory
 --     IsRefusedBy refuses e                 the walk ends with a refusal, for which the bytes have this cause, or for want of memory
 use Rattle.std.specs.Prelude.{◌≡◌, ◌≤◌, ℕ, List, length, Option, Some, None, ⊤, nat_lt, if◌then◌else◌}
 use Rattle.mpt_base.specs.Outside.{Files, IsSizeTold, Rose}
@@ -15,6 +15,7 @@ use Rattle.mpf_answers.specs.FaultLines.{madt_fault_line, pir_fault_line}
 use Rattle.mptab_calls.specs.declared.ending.Ending.{Ending}
 use Rattle.mptab_calls.specs.declared.ending.Ending.TheVariants.{Absent, TooLarge, Unread, Refused, NoMemory}
 use Rattle.mptab_calls.specs.Commands.{bad_calls_line}
+use Rattle.mptab_calls.specs.Ending.{Shelves, IsUndisturbed}
 
 -- where the files are told, there is a file of that name with these bytes; they are within the limit
 pub record IsHeldWithin (told : Option Files) (name : List ℕ) (limit : ℕ) (bytes : List ℕ) : Type 0 where
@@ -32,12 +33,12 @@ most_within None name limit = limit
 most_within (Some files) name limit = most_held (files name) limit
 
 -- the shelf failed, or memory ran out
-abbrev pub IsUnreadEnding : ℕ → ℕ → Ending → Type 0
-IsUnreadEnding faults after Unread = Rose faults after
-IsUnreadEnding faults after NoMemory = after ≡ faults
-IsUnreadEnding faults after Absent = ⊥
-IsUnreadEnding faults after (TooLarge size) = ⊥
-IsUnreadEnding faults after (Refused answer) = ⊥
+abbrev pub IsUnreadEnding : Shelves → Ending → Type 0
+IsUnreadEnding s Unread = Rose s.faults s.faults_after × (s.misses_after ≡ s.misses)
+IsUnreadEnding s NoMemory = IsUndisturbed s
+IsUnreadEnding s Absent = ⊥
+IsUnreadEnding s (TooLarge size) = ⊥
+IsUnreadEnding s (Refused answer) = ⊥
 
 -- a refusal with such a status and text, or want of memory
 abbrev pub IsRefusedBy : (ℕ → List ℕ → Type 0) → Ending → Type 0

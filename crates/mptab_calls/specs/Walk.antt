@@ -6,11 +6,15 @@
 --     IsDueOf ..                            the answer, or a failed read or want of memory in its place
 --     IsDelivered ..                        the text came to the sink's end, or a first part of it with status 5
 --     Answers ..                            what is due was delivered
+--     outside_of S O shelf out              the outside of a shelf and a sink
+--     TellsFailures, TellsMisses            no failure, and no file that isn't there, is kept from the caller
 -- The outside is seen before and after the call by its counts: which rose, and which stayed. A count rose also where it stands at its last value.
 use Rattle.std.specs.Prelude.{◌≡◌, ◌≤◌, ◌<◌, ℕ, ◌+◌, List, [], ◌∷◌, length, map, string_bytes, String, Option, Some, None, ⊤, ◌⊎◌, nat_lt, if◌then◌else◌}
 use Rattle.std.specs.Global.{Global}
 use Rattle.std.specs.List.{AllByRecursion}
 use Rattle.mpt_base.specs.Outside.{Files, Rose, IsSizeTold, Appends, AppendsPrefix}
+use Rattle.mpt_base.specs.declared.outside.Shelf.{Ghosts as ShelfOf}
+use Rattle.mpt_base.specs.declared.outside.Sink.{Ghosts as SinkOf}
 use Rattle.mptab_calls.specs.Texts.{usage_line, no_file_line, cannot_read_line, no_memory_line, too_large_line}
 use Rattle.mptab_calls.specs.Forms.{Form, Named, IsForm, files_of, name_of, limit_of, most_asked, IsRead}
 use Rattle.mptab_calls.specs.Commands.{IsUnderstood, IsRefused, IsText}
@@ -38,6 +42,18 @@ pub record Outside : Type 0 where
 
 abbrev pub outside : ℕ → ℕ → ℕ → ℕ → Option (List ℕ) → Outside
 outside misses faults asked sink_faults written = record { misses = misses; faults = faults; asked = asked; sink_faults = sink_faults; written = written }
+
+-- the outside of a shelf and a sink
+abbrev pub outside_of : {X Y : Type 0} → ShelfOf X → SinkOf Y → X → Y → Outside
+outside_of S O shelf out = outside (S.misses shelf) (S.faults shelf) (S.asked shelf) (O.faults out) (O.written out)
+
+-- no call of the shelf failed, and none said that a file isn't there
+abbrev pub IsQuiet : Outside → Outside → Type 0
+IsQuiet before after = (after.faults ≡ before.faults) × (after.misses ≡ before.misses)
+
+-- a call of the shelf failed, and none said that a file isn't there
+abbrev pub HasFailed : Outside → Outside → Type 0
+HasFailed before after = Rose before.faults after.faults × (after.misses ≡ before.misses)
 
 -- ---- the walk over files
 
@@ -85,19 +101,22 @@ IsFirstRead told (file ∷ files) = IsRead told file (λ bytes. ⊤)
 -- a failed read of a file that the walk reaches, or want of memory, never before the first file is there and within its limit
 abbrev pub IsFailure : Option Files → Outside → Outside → Form → ℕ → List ℕ → Type 0
 IsFailure told before after form status text =
-    ((status ≡ 4) × Rose before.faults after.faults × (file : Named) × Reaches told (files_of form) file × (text ≡ cannot_read_line (name_of file)))
-    ⊎ ((status ≡ 9) × (after.faults ≡ before.faults) × IsFirstRead told (files_of form) × (text ≡ no_memory_line))
+    ((status ≡ 4) × HasFailed before after × (file : Named) × Reaches told (files_of form) file × (text ≡ cannot_read_line (name_of file)))
+    ⊎ ((status ≡ 9) × IsQuiet before after × IsFirstRead told (files_of form) × (text ≡ no_memory_line))
+
+-- what the shelf counts beside an answer: no failed call, and a file that isn't there where status 3 says so, and nowhere else
+abbrev pub IsCounted : Outside → Outside → ℕ → Type 0
+IsCounted before after status =
+    (status ≡ 3 → Rose before.misses after.misses) × (after.faults ≡ before.faults) × ((status ≡ 3) ⊎ (after.misses ≡ before.misses))
 
 -- what is due to a form: its answer where no read failed, or a failure in its place
 abbrev pub IsDueOf : Option Files → Outside → Outside → Form → ℕ → List ℕ → Type 0
-IsDueOf told before after form status text =
-    (IsAnswerOf told form status text × (status ≡ 3 → Rose before.misses after.misses) × (after.faults ≡ before.faults))
-    ⊎ IsFailure told before after form status text
+IsDueOf told before after form status text = (IsAnswerOf told form status text × IsCounted before after status) ⊎ IsFailure told before after form status text
 
 -- what is due to words
 abbrev pub IsDue : (Form → Type 0) → Option Files → Outside → Outside → List (List ℕ) → ℕ → List ℕ → Type 0
 IsDue listed told before after words status text =
-    (IsUsage listed words status text × (after.faults ≡ before.faults)) ⊎ IsListed listed words (λ form. IsDueOf told before after form status text)
+    (IsUsage listed words status text × IsQuiet before after) ⊎ IsListed listed words (λ form. IsDueOf told before after form status text)
 
 -- ---- what the caller sees
 
@@ -130,6 +149,10 @@ IsComplete listed told before after words result =
 pub record TellsFailures (before after : Outside) (result : ℕ) : Type 0 where
   pub reads : (result ≡ 4) ⊎ ((result ≡ 5) ⊎ (after.faults ≡ before.faults))
   pub writes : (result ≡ 5) ⊎ (after.sink_faults ≡ before.sink_faults)
+
+-- no file that isn't there is kept from the caller: after one the status is 3, or 5 where the line about it couldn't be written
+abbrev pub TellsMisses : Outside → Outside → ℕ → Type 0
+TellsMisses before after result = (result ≡ 3) ⊎ ((result ≡ 5) ⊎ (after.misses ≡ before.misses))
 
 -- ---- what is asked for
 

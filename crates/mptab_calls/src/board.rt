@@ -3,7 +3,7 @@
 ghost use Rattle.std.specs.Prelude.{◌≡◌, ◌≤◌, ◌+◌, IfOk, IfErr};
 ghost use Rattle.mptab_calls.specs.Forms.{Image, Script};
 ghost use Rattle.mptab_calls.specs.Walk.{IsDelivered, most_of, outside};
-ghost use Rattle.mptab_calls.specs.Ending.{shelves};
+ghost use Rattle.mptab_calls.specs.Ending.{IsUndisturbed, shelves_of};
 ghost use Rattle.mptab_calls.specs.Boards.{IsDescribed, IsBoardGiven, IsBoardEnding, HasAskedForEnd, board_ending_status, board_ending_text};
 
 use crate::ending::{Ending, refuse};
@@ -39,12 +39,9 @@ pub(crate) fn take_described<S: Shelf>(
     shelf: &mut S,
 ) -> Result<Described, BoardEnding>
     ensures files_stay { S.files shelf.new ≡ S.files shelf.old }
-    ensures misses { S.misses shelf.old ≤ S.misses shelf.new }
-    ensures unfailed { IfOk result (λ d. S.faults shelf.new ≡ S.faults shelf.old) }
+    ensures quiet { IfOk result (λ d. IsUndisturbed (shelves_of S.Shelf shelf.old shelf.new)) }
     ensures board { IfOk result (λ d. IsDescribed (S.files shelf.old) files.entry.image.now files.entry.script.now d.tables d.config) }
-    ensures ends { IfErr result (IsBoardEnding (S.files shelf.old)
-        (shelves (S.misses shelf.old) (S.misses shelf.new) (S.faults shelf.old) (S.faults shelf.new))
-        files.entry.image.now files.entry.script.now) }
+    ensures ends { IfErr result (IsBoardEnding (S.files shelf.old) (shelves_of S.Shelf shelf.old shelf.new) files.entry.image.now files.entry.script.now) }
     ensures asks { IfOk result (λ d. S.asked shelf.new ≤ S.asked shelf.old
         + (most_of (S.files shelf.old) (Image files.entry.image.now) + most_of (S.files shelf.old) (Script files.entry.image.now files.entry.script.now))) }
     ensures asks_at_end { IfErr result (HasAskedForEnd (S.files shelf.old) (S.asked shelf.old) (S.asked shelf.new)
@@ -66,12 +63,9 @@ pub(crate) fn take_board<S: Shelf>(
     shelf: &mut S,
 ) -> Result<Config, BoardEnding>
     ensures files_stay { S.files shelf.new ≡ S.files shelf.old }
-    ensures misses { S.misses shelf.old ≤ S.misses shelf.new }
-    ensures unfailed { IfOk result (λ c. S.faults shelf.new ≡ S.faults shelf.old) }
+    ensures quiet { IfOk result (λ c. IsUndisturbed (shelves_of S.Shelf shelf.old shelf.new)) }
     ensures board { IfOk result (IsBoardGiven (S.files shelf.old) files.entry.image.now files.entry.script.now) }
-    ensures ends { IfErr result (IsBoardEnding (S.files shelf.old)
-        (shelves (S.misses shelf.old) (S.misses shelf.new) (S.faults shelf.old) (S.faults shelf.new))
-        files.entry.image.now files.entry.script.now) }
+    ensures ends { IfErr result (IsBoardEnding (S.files shelf.old) (shelves_of S.Shelf shelf.old shelf.new) files.entry.image.now files.entry.script.now) }
     ensures asks { IfOk result (λ c. S.asked shelf.new ≤ S.asked shelf.old
         + (most_of (S.files shelf.old) (Image files.entry.image.now) + most_of (S.files shelf.old) (Script files.entry.image.now files.entry.script.now))) }
     ensures asks_at_end { IfErr result (HasAskedForEnd (S.files shelf.old) (S.asked shelf.old) (S.asked shelf.new)

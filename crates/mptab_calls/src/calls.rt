@@ -2,8 +2,8 @@
 
 ghost use Rattle.std.specs.Prelude.{MatchOption};
 ghost use Rattle.mptab_calls.specs.Forms.{IsStill, IsAny, IsForm, form_of_still};
-ghost use Rattle.mptab_calls.specs.Walk.{texts_of, outside, Answers, IsComplete, TellsFailures, AsksAtMost, IsNoForm};
-ghost use Rattle.mptab_calls.specs.Causes.{Cause};
+ghost use Rattle.mptab_calls.specs.Walk.{texts_of, IsNoForm};
+ghost use Rattle.mptab_calls.specs.TopCall.{GivesAnswer, HasCause, IsWhole, HidesNoFailure, HidesNoMiss, AsksNoMore};
 
 use crate::boot::give_of_boot;
 use crate::delivery::deliver_line;
@@ -33,14 +33,8 @@ fn still_of(words: &[String]) -> Option<StillCommand>
 
 // the walk over words and files of the forms that need no threads
 fn walk_still<S: Shelf, O: Sink>(alloc: Global, words: &[String], shelf: &mut S, out: &mut O) -> u8
-    ensures answer { Answers IsStill (S.files shelf.old)
-        (outside (S.misses shelf.old) (S.faults shelf.old) (S.asked shelf.old) (O.faults out.old) (O.written out.old))
-        (outside (S.misses shelf.new) (S.faults shelf.new) (S.asked shelf.new) (O.faults out.new) (O.written out.new))
-        (texts_of words.now) result }
-    ensures asks { AsksAtMost IsStill (S.files shelf.old)
-        (outside (S.misses shelf.old) (S.faults shelf.old) (S.asked shelf.old) (O.faults out.old) (O.written out.old))
-        (outside (S.misses shelf.new) (S.faults shelf.new) (S.asked shelf.new) (O.faults out.new) (O.written out.new))
-        (texts_of words.now) }
+    ensures answer { GivesAnswer IsStill S.Shelf O.Sink words.now shelf.old out.old shelf.new out.new result }
+    ensures asks { AsksNoMore IsStill S.Shelf O.Sink words.now shelf.old out.old shelf.new out.new }
 {
     match still_of(words) {
         Some(command) => give(alloc, command, shelf, out),
@@ -57,14 +51,8 @@ fn walk<R: Threads + Wait + Sync, S: Shelf, O: Sink, G: Gate + Sync>(
     out: &mut O,
     gate: &G,
 ) -> u8
-    ensures answer { Answers IsAny (S.files shelf.old)
-        (outside (S.misses shelf.old) (S.faults shelf.old) (S.asked shelf.old) (O.faults out.old) (O.written out.old))
-        (outside (S.misses shelf.new) (S.faults shelf.new) (S.asked shelf.new) (O.faults out.new) (O.written out.new))
-        (texts_of words.now) result }
-    ensures asks { AsksAtMost IsAny (S.files shelf.old)
-        (outside (S.misses shelf.old) (S.faults shelf.old) (S.asked shelf.old) (O.faults out.old) (O.written out.old))
-        (outside (S.misses shelf.new) (S.faults shelf.new) (S.asked shelf.new) (O.faults out.new) (O.written out.new))
-        (texts_of words.now) }
+    ensures answer { GivesAnswer IsAny S.Shelf O.Sink words.now shelf.old out.old shelf.new out.new result }
+    ensures asks { AsksNoMore IsAny S.Shelf O.Sink words.now shelf.old out.old shelf.new out.new }
 {
     match command_of(words) {
         Some(Command::Still(command)) => give(alloc, command, shelf, out),
@@ -87,33 +75,22 @@ pub fn run_still<S: Shelf, O: Sink>(
 ) -> u8
     // Status and text are an answer of words and files; or a read failed, or memory ran out; or, with
     // status 5, a write failed.
-    ensures answer { Answers IsStill (S.files shelf.old)
-        (outside (S.misses shelf.old) (S.faults shelf.old) (S.asked shelf.old) (O.faults out.old) (O.written out.old))
-        (outside (S.misses shelf.new) (S.faults shelf.new) (S.asked shelf.new) (O.faults out.new) (O.written out.new))
-        (texts_of words.now) result }
+    ensures answer { GivesAnswer IsStill S.Shelf O.Sink words.now shelf.old out.old shelf.new out.new result }
 
     // Each status has its cause.
-    ensures cause { Cause IsStill (S.files shelf.old)
-        (outside (S.misses shelf.old) (S.faults shelf.old) (S.asked shelf.old) (O.faults out.old) (O.written out.old))
-        (outside (S.misses shelf.new) (S.faults shelf.new) (S.asked shelf.new) (O.faults out.new) (O.written out.new))
-        (texts_of words.now) result }
+    ensures cause { HasCause IsStill S.Shelf O.Sink words.now shelf.old out.old shelf.new out.new result }
 
     // Where no call fails, an answer comes whole, unless memory runs out.
-    ensures complete { IsComplete IsStill (S.files shelf.old)
-        (outside (S.misses shelf.old) (S.faults shelf.old) (S.asked shelf.old) (O.faults out.old) (O.written out.old))
-        (outside (S.misses shelf.new) (S.faults shelf.new) (S.asked shelf.new) (O.faults out.new) (O.written out.new))
-        (texts_of words.now) result }
+    ensures complete { IsWhole IsStill S.Shelf O.Sink words.now shelf.old out.old shelf.new out.new result }
 
     // No failure is kept from the caller.
-    ensures failures { TellsFailures
-        (outside (S.misses shelf.old) (S.faults shelf.old) (S.asked shelf.old) (O.faults out.old) (O.written out.old))
-        (outside (S.misses shelf.new) (S.faults shelf.new) (S.asked shelf.new) (O.faults out.new) (O.written out.new)) result }
+    ensures failures { HidesNoFailure S.Shelf O.Sink shelf.old out.old shelf.new out.new result }
+
+    // Nor is a file that isn't there.
+    ensures misses { HidesNoMiss S.Shelf O.Sink shelf.old out.old shelf.new out.new result }
 
     // No more is asked for than the files that the walk comes to let.
-    ensures asks { AsksAtMost IsStill (S.files shelf.old)
-        (outside (S.misses shelf.old) (S.faults shelf.old) (S.asked shelf.old) (O.faults out.old) (O.written out.old))
-        (outside (S.misses shelf.new) (S.faults shelf.new) (S.asked shelf.new) (O.faults out.new) (O.written out.new))
-        (texts_of words.now) }
+    ensures asks { AsksNoMore IsStill S.Shelf O.Sink words.now shelf.old out.old shelf.new out.new }
 {
     walk_still(alloc, words, shelf, out)
 }
@@ -128,35 +105,13 @@ pub fn run_with<R: Threads + Wait + Sync, S: Shelf, O: Sink, G: Gate + Sync>(
     out: &mut O,
     gate: &G,
 ) -> u8
-    // Status and text are an answer of words and files; or a read failed, or memory ran out; or, with
-    // status 5, a write failed.
-    ensures answer { Answers IsAny (S.files shelf.old)
-        (outside (S.misses shelf.old) (S.faults shelf.old) (S.asked shelf.old) (O.faults out.old) (O.written out.old))
-        (outside (S.misses shelf.new) (S.faults shelf.new) (S.asked shelf.new) (O.faults out.new) (O.written out.new))
-        (texts_of words.now) result }
-
-    // Each status has its cause.
-    ensures cause { Cause IsAny (S.files shelf.old)
-        (outside (S.misses shelf.old) (S.faults shelf.old) (S.asked shelf.old) (O.faults out.old) (O.written out.old))
-        (outside (S.misses shelf.new) (S.faults shelf.new) (S.asked shelf.new) (O.faults out.new) (O.written out.new))
-        (texts_of words.now) result }
-
-    // Where no call fails, an answer comes whole, unless memory runs out.
-    ensures complete { IsComplete IsAny (S.files shelf.old)
-        (outside (S.misses shelf.old) (S.faults shelf.old) (S.asked shelf.old) (O.faults out.old) (O.written out.old))
-        (outside (S.misses shelf.new) (S.faults shelf.new) (S.asked shelf.new) (O.faults out.new) (O.written out.new))
-        (texts_of words.now) result }
-
-    // No failure is kept from the caller.
-    ensures failures { TellsFailures
-        (outside (S.misses shelf.old) (S.faults shelf.old) (S.asked shelf.old) (O.faults out.old) (O.written out.old))
-        (outside (S.misses shelf.new) (S.faults shelf.new) (S.asked shelf.new) (O.faults out.new) (O.written out.new)) result }
-
-    // No more is asked for than the files that the walk comes to let.
-    ensures asks { AsksAtMost IsAny (S.files shelf.old)
-        (outside (S.misses shelf.old) (S.faults shelf.old) (S.asked shelf.old) (O.faults out.old) (O.written out.old))
-        (outside (S.misses shelf.new) (S.faults shelf.new) (S.asked shelf.new) (O.faults out.new) (O.written out.new))
-        (texts_of words.now) }
+    // As of `run_still`, of every form.
+    ensures answer { GivesAnswer IsAny S.Shelf O.Sink words.now shelf.old out.old shelf.new out.new result }
+    ensures cause { HasCause IsAny S.Shelf O.Sink words.now shelf.old out.old shelf.new out.new result }
+    ensures complete { IsWhole IsAny S.Shelf O.Sink words.now shelf.old out.old shelf.new out.new result }
+    ensures failures { HidesNoFailure S.Shelf O.Sink shelf.old out.old shelf.new out.new result }
+    ensures misses { HidesNoMiss S.Shelf O.Sink shelf.old out.old shelf.new out.new result }
+    ensures asks { AsksNoMore IsAny S.Shelf O.Sink words.now shelf.old out.old shelf.new out.new }
 {
     walk(rt, alloc, words, shelf, out, gate)
 }
@@ -169,35 +124,13 @@ pub fn run<R: Threads + Wait + Sync, S: Shelf, O: Sink>(
     shelf: &mut S,
     out: &mut O,
 ) -> u8
-    // Status and text are an answer of words and files; or a read failed, or memory ran out; or, with
-    // status 5, a write failed.
-    ensures answer { Answers IsAny (S.files shelf.old)
-        (outside (S.misses shelf.old) (S.faults shelf.old) (S.asked shelf.old) (O.faults out.old) (O.written out.old))
-        (outside (S.misses shelf.new) (S.faults shelf.new) (S.asked shelf.new) (O.faults out.new) (O.written out.new))
-        (texts_of words.now) result }
-
-    // Each status has its cause.
-    ensures cause { Cause IsAny (S.files shelf.old)
-        (outside (S.misses shelf.old) (S.faults shelf.old) (S.asked shelf.old) (O.faults out.old) (O.written out.old))
-        (outside (S.misses shelf.new) (S.faults shelf.new) (S.asked shelf.new) (O.faults out.new) (O.written out.new))
-        (texts_of words.now) result }
-
-    // Where no call fails, an answer comes whole, unless memory runs out.
-    ensures complete { IsComplete IsAny (S.files shelf.old)
-        (outside (S.misses shelf.old) (S.faults shelf.old) (S.asked shelf.old) (O.faults out.old) (O.written out.old))
-        (outside (S.misses shelf.new) (S.faults shelf.new) (S.asked shelf.new) (O.faults out.new) (O.written out.new))
-        (texts_of words.now) result }
-
-    // No failure is kept from the caller.
-    ensures failures { TellsFailures
-        (outside (S.misses shelf.old) (S.faults shelf.old) (S.asked shelf.old) (O.faults out.old) (O.written out.old))
-        (outside (S.misses shelf.new) (S.faults shelf.new) (S.asked shelf.new) (O.faults out.new) (O.written out.new)) result }
-
-    // No more is asked for than the files that the walk comes to let.
-    ensures asks { AsksAtMost IsAny (S.files shelf.old)
-        (outside (S.misses shelf.old) (S.faults shelf.old) (S.asked shelf.old) (O.faults out.old) (O.written out.old))
-        (outside (S.misses shelf.new) (S.faults shelf.new) (S.asked shelf.new) (O.faults out.new) (O.written out.new))
-        (texts_of words.now) }
+    // As of `run_still`, of every form.
+    ensures answer { GivesAnswer IsAny S.Shelf O.Sink words.now shelf.old out.old shelf.new out.new result }
+    ensures cause { HasCause IsAny S.Shelf O.Sink words.now shelf.old out.old shelf.new out.new result }
+    ensures complete { IsWhole IsAny S.Shelf O.Sink words.now shelf.old out.old shelf.new out.new result }
+    ensures failures { HidesNoFailure S.Shelf O.Sink shelf.old out.old shelf.new out.new result }
+    ensures misses { HidesNoMiss S.Shelf O.Sink shelf.old out.old shelf.new out.new result }
+    ensures asks { AsksNoMore IsAny S.Shelf O.Sink words.now shelf.old out.old shelf.new out.new }
 {
     run_with(rt, alloc, words, shelf, out, &NoGate)
 }

@@ -6,7 +6,7 @@ ghost use Rattle.mpf_pic_lines.specs.Lines.{IsTextOf, IsPlayable};
 ghost use Rattle.mptab_calls.specs.Forms.{Calls};
 ghost use Rattle.mptab_calls.specs.Commands.{CallsGive};
 ghost use Rattle.mptab_calls.specs.Walk.{most_of};
-ghost use Rattle.mptab_calls.specs.Ending.{IsEnding, shelves};
+ghost use Rattle.mptab_calls.specs.Ending.{IsEnding, IsUndisturbed, shelves_of};
 ghost use Rattle.mptab_calls.specs.Limited.{IsRefusedBy, RefusesCalls};
 
 use crate::ending::{Ending, refused};
@@ -26,12 +26,10 @@ pub(crate) fn take_calls<S: Shelf>(
     shelf: &mut S,
 ) -> Result<Vec<PicOp>, Ending>
     ensures files_stay { S.files shelf.new ≡ S.files shelf.old }
-    ensures unfailed { IfOk result (λ ops. S.faults shelf.new ≡ S.faults shelf.old) }
+    ensures quiet { IfOk result (λ ops. IsUndisturbed (shelves_of S.Shelf shelf.old shelf.new)) }
     ensures calls { IfOk result (λ ops. CallsGive (S.files shelf.old) name.now ops.items) }
     ensures playable { IfOk result (λ ops. AllByRecursion IsPlayable ops.items) }
-    ensures ends { IfErr result (IsEnding (S.files shelf.old)
-        (shelves (S.misses shelf.old) (S.misses shelf.new) (S.faults shelf.old) (S.faults shelf.new))
-        (Calls name.now)) }
+    ensures ends { IfErr result (IsEnding (S.files shelf.old) (shelves_of S.Shelf shelf.old shelf.new) (Calls name.now)) }
     ensures asks { S.asked shelf.new ≤ S.asked shelf.old + most_of (S.files shelf.old) (Calls name.now) }
 {
     match take_bytes(alloc, name, CALLS_LIMIT, shelf) {

@@ -28,7 +28,7 @@ pub(crate) fn read_whole<S: Shelf>(
 ) -> Result<Vec<u8>, FileFailure>
     requires told { IsSizeTold (S.files shelf.old) name.now (Some size) }
     ensures files_stay { S.files shelf.new ≡ S.files shelf.old }
-    ensures misses { S.misses shelf.old ≤ S.misses shelf.new }
+    ensures misses_stay { S.misses shelf.new ≡ S.misses shelf.old }
     ensures unread { result ≡ Err FileFailure.Unread → Rose (S.faults shelf.old) (S.faults shelf.new) }
     ensures unfailed { result ≢ Err FileFailure.Unread → S.faults shelf.new ≡ S.faults shelf.old }
     ensures asks { S.asked shelf.new ≤ S.asked shelf.old + size }
@@ -54,7 +54,7 @@ fn zeros(alloc: Global, len: usize) -> Result<Vec<u8>, AllocError>
 fn fill<S: Shelf>(shelf: &mut S, name: &str, buf: &mut [u8]) -> Result<(), Failed>
     requires { IsSizeTold (S.files shelf.old) name.now (Some (length buf.old)) }
     ensures files_stay { S.files shelf.new ≡ S.files shelf.old }
-    ensures misses { S.misses shelf.old ≤ S.misses shelf.new }
+    ensures misses_stay { S.misses shelf.new ≡ S.misses shelf.old }
     ensures err { OnErr result (Rose (S.faults shelf.old) (S.faults shelf.new)) }
     ensures unfailed { OnOk result (S.faults shelf.new ≡ S.faults shelf.old) }
     ensures asks { S.asked shelf.new ≤ S.asked shelf.old + length buf.old }

@@ -6,7 +6,7 @@ ghost use Rattle.mpf_pir.specs.Layout.{IsPir};
 ghost use Rattle.mptab_calls.specs.Forms.{AcpiTable, RoutingTable};
 ghost use Rattle.mptab_calls.specs.Commands.{MadtGives, PirGives};
 ghost use Rattle.mptab_calls.specs.Walk.{most_of};
-ghost use Rattle.mptab_calls.specs.Ending.{IsEnding, shelves};
+ghost use Rattle.mptab_calls.specs.Ending.{IsEnding, IsUndisturbed, shelves_of};
 ghost use Rattle.mptab_calls.specs.Limited.{IsRefusedBy, RefusesMadt, RefusesPir};
 
 use crate::ending::{Ending, refused};
@@ -23,11 +23,9 @@ const TABLE_LIMIT: u64 = 1_048_576;
 /// The MADT of this name, or why the walk ends there.
 pub(crate) fn take_madt<S: Shelf>(alloc: Global, name: &str, shelf: &mut S) -> Result<Madt, Ending>
     ensures files_stay { S.files shelf.new ≡ S.files shelf.old }
-    ensures unfailed { IfOk result (λ m. S.faults shelf.new ≡ S.faults shelf.old) }
+    ensures quiet { IfOk result (λ m. IsUndisturbed (shelves_of S.Shelf shelf.old shelf.new)) }
     ensures table { IfOk result (λ m. MadtGives (S.files shelf.old) name.now m) }
-    ensures ends { IfErr result (IsEnding (S.files shelf.old)
-        (shelves (S.misses shelf.old) (S.misses shelf.new) (S.faults shelf.old) (S.faults shelf.new))
-        (AcpiTable name.now)) }
+    ensures ends { IfErr result (IsEnding (S.files shelf.old) (shelves_of S.Shelf shelf.old shelf.new) (AcpiTable name.now)) }
     ensures asks { S.asked shelf.new ≤ S.asked shelf.old + most_of (S.files shelf.old) (AcpiTable name.now) }
 {
     match take_bytes(alloc, name, TABLE_LIMIT, shelf) {
@@ -52,11 +50,9 @@ fn madt_in(alloc: Global, bytes: &[u8]) -> Result<Madt, Ending>
 /// The PCI IRQ routing table of this name, or why the walk ends there.
 pub(crate) fn take_pir<S: Shelf>(alloc: Global, name: &str, shelf: &mut S) -> Result<Pir, Ending>
     ensures files_stay { S.files shelf.new ≡ S.files shelf.old }
-    ensures unfailed { IfOk result (λ t. S.faults shelf.new ≡ S.faults shelf.old) }
+    ensures quiet { IfOk result (λ t. IsUndisturbed (shelves_of S.Shelf shelf.old shelf.new)) }
     ensures table { IfOk result (λ t. PirGives (S.files shelf.old) name.now t) }
-    ensures ends { IfErr result (IsEnding (S.files shelf.old)
-        (shelves (S.misses shelf.old) (S.misses shelf.new) (S.faults shelf.old) (S.faults shelf.new))
-        (RoutingTable name.now)) }
+    ensures ends { IfErr result (IsEnding (S.files shelf.old) (shelves_of S.Shelf shelf.old shelf.new) (RoutingTable name.now)) }
     ensures asks { S.asked shelf.new ≤ S.asked shelf.old + most_of (S.files shelf.old) (RoutingTable name.now) }
 {
     match take_bytes(alloc, name, TABLE_LIMIT, shelf) {

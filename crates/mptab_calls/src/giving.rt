@@ -2,7 +2,7 @@
 
 ghost use Rattle.std.specs.Prelude.{◌≤◌, ◌+◌, ℕ, List};
 ghost use Rattle.mptab_calls.specs.Forms.{IsInRange, files_of, form_of_still, form_of_tables};
-ghost use Rattle.mptab_calls.specs.Walk.{IsDueOf, IsDelivered, AsksOf, outside};
+ghost use Rattle.mptab_calls.specs.Walk.{IsDueOf, IsDelivered, AsksOf, outside_of};
 
 use crate::answer::answer_to;
 use crate::delivery::deliver_text;
@@ -27,10 +27,8 @@ pub(crate) fn give<S: Shelf, O: Sink>(
 ) -> u8
     requires { IsInRange command }
     ensures due { (status : ℕ) × (text : List ℕ)
-        × IsDueOf (S.files shelf.old) (outside (S.misses shelf.old) (S.faults shelf.old) (S.asked shelf.old) (O.faults out.old) (O.written out.old))
-        (outside (S.misses shelf.new) (S.faults shelf.new) (S.asked shelf.new) (O.faults out.new) (O.written out.new)) (form_of_still command.entry) status text
-        × IsDelivered (outside (S.misses shelf.old) (S.faults shelf.old) (S.asked shelf.old) (O.faults out.old) (O.written out.old))
-        (outside (S.misses shelf.new) (S.faults shelf.new) (S.asked shelf.new) (O.faults out.new) (O.written out.new)) result status text }
+        × IsDueOf (S.files shelf.old) (outside_of S.Shelf O.Sink shelf.old out.old) (outside_of S.Shelf O.Sink shelf.new out.new) (form_of_still command.entry) status text
+        × IsDelivered (outside_of S.Shelf O.Sink shelf.old out.old) (outside_of S.Shelf O.Sink shelf.new out.new) result status text }
     ensures asks { (n : ℕ) × (S.asked shelf.new ≤ S.asked shelf.old + n) × AsksOf (S.files shelf.old) (files_of (form_of_still command.entry)) n }
 {
     match command {
@@ -52,10 +50,8 @@ fn give_of_tables<S: Shelf, O: Sink>(
     out: &mut O,
 ) -> u8
     ensures due { (status : ℕ) × (text : List ℕ)
-        × IsDueOf (S.files shelf.old) (outside (S.misses shelf.old) (S.faults shelf.old) (S.asked shelf.old) (O.faults out.old) (O.written out.old))
-        (outside (S.misses shelf.new) (S.faults shelf.new) (S.asked shelf.new) (O.faults out.new) (O.written out.new)) (form_of_tables command.entry) status text
-        × IsDelivered (outside (S.misses shelf.old) (S.faults shelf.old) (S.asked shelf.old) (O.faults out.old) (O.written out.old))
-        (outside (S.misses shelf.new) (S.faults shelf.new) (S.asked shelf.new) (O.faults out.new) (O.written out.new)) result status text }
+        × IsDueOf (S.files shelf.old) (outside_of S.Shelf O.Sink shelf.old out.old) (outside_of S.Shelf O.Sink shelf.new out.new) (form_of_tables command.entry) status text
+        × IsDelivered (outside_of S.Shelf O.Sink shelf.old out.old) (outside_of S.Shelf O.Sink shelf.new out.new) result status text }
     ensures asks { (n : ℕ) × (S.asked shelf.new ≤ S.asked shelf.old + n) × AsksOf (S.files shelf.old) (files_of (form_of_tables command.entry)) n }
 {
     let source = source_named(command);

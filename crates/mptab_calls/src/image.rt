@@ -6,7 +6,7 @@ ghost use Rattle.mpt_spec.specs.Canonical.{IsWellFormed};
 ghost use Rattle.mptab_calls.specs.Forms.{Image, limit_of, most_asked};
 ghost use Rattle.mptab_calls.specs.Commands.{ImageGives};
 ghost use Rattle.mptab_calls.specs.Walk.{most_of};
-ghost use Rattle.mptab_calls.specs.Ending.{IsEnding, shelves};
+ghost use Rattle.mptab_calls.specs.Ending.{IsEnding, IsUndisturbed, shelves_of};
 
 use crate::ending::{Ending, refused};
 use crate::refusals::{first_fault, no_pointer};
@@ -24,14 +24,11 @@ pub(crate) fn take_image<S: Shelf>(
     shelf: &mut S,
 ) -> Result<Tables, Ending>
     ensures files_stay { S.files shelf.new ≡ S.files shelf.old }
-    ensures misses { S.misses shelf.old ≤ S.misses shelf.new }
-    ensures unfailed { IfOk result (λ t. S.faults shelf.new ≡ S.faults shelf.old) }
+    ensures quiet { IfOk result (λ t. IsUndisturbed (shelves_of S.Shelf shelf.old shelf.new)) }
     ensures tables { IfOk result (λ t. ImageGives (S.files shelf.old) name.now t) }
     ensures well_formed { IfOk result IsWellFormed }
     ensures low { IfOk result (λ t. t.at < 2 ^ 32) }
-    ensures ends { IfErr result (IsEnding (S.files shelf.old)
-        (shelves (S.misses shelf.old) (S.misses shelf.new) (S.faults shelf.old) (S.faults shelf.new))
-        (Image name.now)) }
+    ensures ends { IfErr result (IsEnding (S.files shelf.old) (shelves_of S.Shelf shelf.old shelf.new) (Image name.now)) }
     ensures asks { S.asked shelf.new ≤ S.asked shelf.old + most_of (S.files shelf.old) (Image name.now) }
 {
     match shelf.size(name) {
@@ -52,14 +49,11 @@ fn image_of_size<S: Shelf>(
     requires told { IsSizeTold (S.files shelf.old) name.now (Some size) }
     requires within { size ≤ limit_of (Image name.now) }
     ensures files_stay { S.files shelf.new ≡ S.files shelf.old }
-    ensures misses { S.misses shelf.old ≤ S.misses shelf.new }
-    ensures unfailed { IfOk result (λ t. S.faults shelf.new ≡ S.faults shelf.old) }
+    ensures quiet { IfOk result (λ t. IsUndisturbed (shelves_of S.Shelf shelf.old shelf.new)) }
     ensures tables { IfOk result (λ t. ImageGives (S.files shelf.old) name.now t) }
     ensures well_formed { IfOk result IsWellFormed }
     ensures low { IfOk result (λ t. t.at < 2 ^ 32) }
-    ensures ends { IfErr result (IsEnding (S.files shelf.old)
-        (shelves (S.misses shelf.old) (S.misses shelf.new) (S.faults shelf.old) (S.faults shelf.new))
-        (Image name.now)) }
+    ensures ends { IfErr result (IsEnding (S.files shelf.old) (shelves_of S.Shelf shelf.old shelf.new) (Image name.now)) }
     ensures asks { S.asked shelf.new ≤ S.asked shelf.old + most_asked (Image name.now) size }
 {
     match read_from(alloc, shelf, name, size) {

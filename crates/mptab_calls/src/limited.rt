@@ -4,7 +4,7 @@ ghost use Rattle.std.specs.Prelude.{◌≡◌, ◌≤◌, ◌+◌, length, Some,
 ghost use Rattle.mpt_base.specs.Outside.{IsSizeTold};
 ghost use Rattle.mpt_table.specs.Windows.{IfTold};
 ghost use Rattle.mptab_calls.specs.Forms.{Named, name_of, limit_of};
-ghost use Rattle.mptab_calls.specs.Ending.{IsEnding, shelves};
+ghost use Rattle.mptab_calls.specs.Ending.{IsEnding, IsUndisturbed, shelves_of};
 ghost use Rattle.mptab_calls.specs.Limited.{IsHeldWithin, IsUnreadEnding, most_within};
 
 use crate::ending::Ending;
@@ -20,10 +20,9 @@ pub(crate) fn take_bytes<S: Shelf>(
     shelf: &mut S,
 ) -> Result<Vec<u8>, Ending>
     ensures files_stay { S.files shelf.new ≡ S.files shelf.old }
-    ensures unfailed { IfOk result (λ bytes. S.faults shelf.new ≡ S.faults shelf.old) }
+    ensures quiet { IfOk result (λ bytes. IsUndisturbed (shelves_of S.Shelf shelf.old shelf.new)) }
     ensures bytes { IfOk result (λ bytes. IsHeldWithin (S.files shelf.old) name.now limit bytes.items) }
-    ensures ends { (file : Named) → name_of file ≡ name.now → limit_of file ≡ limit → IfErr result (IsEnding (S.files shelf.old)
-        (shelves (S.misses shelf.old) (S.misses shelf.new) (S.faults shelf.old) (S.faults shelf.new)) file) }
+    ensures ends { (file : Named) → name_of file ≡ name.now → limit_of file ≡ limit → IfErr result (IsEnding (S.files shelf.old) (shelves_of S.Shelf shelf.old shelf.new) file) }
     ensures asks { S.asked shelf.new ≤ S.asked shelf.old + most_within (S.files shelf.old) name.now limit }
 {
     match shelf.size(name) {
@@ -43,10 +42,10 @@ fn bytes_of_size<S: Shelf>(
 ) -> Result<Vec<u8>, Ending>
     requires { IsSizeTold (S.files shelf.old) name.now (Some size) }
     ensures files_stay { S.files shelf.new ≡ S.files shelf.old }
-    ensures unfailed { IfOk result (λ bytes. S.faults shelf.new ≡ S.faults shelf.old) }
+    ensures quiet { IfOk result (λ bytes. IsUndisturbed (shelves_of S.Shelf shelf.old shelf.new)) }
     ensures size { IfOk result (λ bytes. length bytes.items ≡ size) }
     ensures held { IfOk result (λ bytes. IfTold (S.files shelf.old) name.now (λ file. file ≡ bytes.items)) }
-    ensures ends { IfErr result (IsUnreadEnding (S.faults shelf.old) (S.faults shelf.new)) }
+    ensures ends { IfErr result (IsUnreadEnding (shelves_of S.Shelf shelf.old shelf.new)) }
     ensures asks { S.asked shelf.new ≤ S.asked shelf.old + size }
 {
     match read_whole(alloc, shelf, name, size) {

@@ -6,7 +6,7 @@ ghost use Rattle.mpt_spec.specs.Canonical.{IsWellFormed};
 ghost use Rattle.mptab_calls.specs.Forms.{Listing, limit_of, most_asked};
 ghost use Rattle.mptab_calls.specs.Commands.{ListingGives};
 ghost use Rattle.mptab_calls.specs.Walk.{most_of};
-ghost use Rattle.mptab_calls.specs.Ending.{IsEnding, shelves};
+ghost use Rattle.mptab_calls.specs.Ending.{IsEnding, IsUndisturbed, shelves_of};
 
 use crate::ending::{Ending, refused};
 use crate::file::{FileFailure, read_whole};
@@ -26,13 +26,11 @@ pub(crate) fn take_listing<S: Shelf>(
     shelf: &mut S,
 ) -> Result<Tables, Ending>
     ensures files_stay { S.files shelf.new ≡ S.files shelf.old }
-    ensures unfailed { IfOk result (λ t. S.faults shelf.new ≡ S.faults shelf.old) }
+    ensures quiet { IfOk result (λ t. IsUndisturbed (shelves_of S.Shelf shelf.old shelf.new)) }
     ensures tables { IfOk result (λ t. ListingGives (S.files shelf.old) name.now t) }
     ensures well_formed { IfOk result IsWellFormed }
     ensures low { IfOk result (λ t. t.at < 2 ^ 32) }
-    ensures ends { IfErr result (IsEnding (S.files shelf.old)
-        (shelves (S.misses shelf.old) (S.misses shelf.new) (S.faults shelf.old) (S.faults shelf.new))
-        (Listing name.now)) }
+    ensures ends { IfErr result (IsEnding (S.files shelf.old) (shelves_of S.Shelf shelf.old shelf.new) (Listing name.now)) }
     ensures asks { S.asked shelf.new ≤ S.asked shelf.old + most_of (S.files shelf.old) (Listing name.now) }
 {
     match shelf.size(name) {
@@ -53,13 +51,11 @@ fn listing_of_size<S: Shelf>(
     requires told { IsSizeTold (S.files shelf.old) name.now (Some size) }
     requires within { size ≤ limit_of (Listing name.now) }
     ensures files_stay { S.files shelf.new ≡ S.files shelf.old }
-    ensures unfailed { IfOk result (λ t. S.faults shelf.new ≡ S.faults shelf.old) }
+    ensures quiet { IfOk result (λ t. IsUndisturbed (shelves_of S.Shelf shelf.old shelf.new)) }
     ensures tables { IfOk result (λ t. ListingGives (S.files shelf.old) name.now t) }
     ensures well_formed { IfOk result IsWellFormed }
     ensures low { IfOk result (λ t. t.at < 2 ^ 32) }
-    ensures ends { IfErr result (IsEnding (S.files shelf.old)
-        (shelves (S.misses shelf.old) (S.misses shelf.new) (S.faults shelf.old) (S.faults shelf.new))
-        (Listing name.now)) }
+    ensures ends { IfErr result (IsEnding (S.files shelf.old) (shelves_of S.Shelf shelf.old shelf.new) (Listing name.now)) }
     ensures asks { S.asked shelf.new ≤ S.asked shelf.old + most_asked (Listing name.now) size }
 {
     let bytes = match read_whole(alloc, shelf, name, size) {

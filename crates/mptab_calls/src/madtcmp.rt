@@ -7,7 +7,7 @@ ghost use Rattle.mpt_route.specs.Routes.{routes_of};
 ghost use Rattle.mpf_answers.specs.LineDifferences.{line_differences_of};
 ghost use Rattle.mptab_calls.specs.Forms.{Madtcmp, AcpiTable, files_of};
 ghost use Rattle.mptab_calls.specs.Commands.{ImageGives, IsMadtCompared, status_of};
-ghost use Rattle.mptab_calls.specs.Walk.{IsDueOf, IsDelivered, AsksOf, most_of, outside};
+ghost use Rattle.mptab_calls.specs.Walk.{IsDueOf, IsDelivered, AsksOf, most_of, outside_of};
 
 use crate::answer::Answer;
 use crate::delivery::deliver_text;
@@ -70,10 +70,8 @@ fn give_of_madt<S: Shelf, O: Sink>(
     requires well_formed { IsWellFormed tables.now }
     requires low { tables.now.at < 2 ^ 32 }
     ensures due { (status : ℕ) × (text : List ℕ)
-        × IsDueOf (S.files shelf.old) (outside (S.misses shelf.old) (S.faults shelf.old) (S.asked shelf.old) (O.faults out.old) (O.written out.old))
-        (outside (S.misses shelf.new) (S.faults shelf.new) (S.asked shelf.new) (O.faults out.new) (O.written out.new)) (Madtcmp files.entry.image.now files.entry.elcr files.entry.madt.now) status text
-        × IsDelivered (outside (S.misses shelf.old) (S.faults shelf.old) (S.asked shelf.old) (O.faults out.old) (O.written out.old))
-        (outside (S.misses shelf.new) (S.faults shelf.new) (S.asked shelf.new) (O.faults out.new) (O.written out.new)) result status text }
+        × IsDueOf (S.files shelf.old) (outside_of S.Shelf O.Sink shelf.old out.old) (outside_of S.Shelf O.Sink shelf.new out.new) (Madtcmp files.entry.image.now files.entry.elcr files.entry.madt.now) status text
+        × IsDelivered (outside_of S.Shelf O.Sink shelf.old out.old) (outside_of S.Shelf O.Sink shelf.new out.new) result status text }
     ensures asks { S.asked shelf.new ≤ S.asked shelf.old + most_of (S.files shelf.old) (AcpiTable files.entry.madt.now) }
 {
     match take_madt(alloc, files.madt, shelf) {
@@ -94,10 +92,8 @@ pub(crate) fn give_of_madtcmp<S: Shelf, O: Sink>(
     out: &mut O,
 ) -> u8
     ensures due { (status : ℕ) × (text : List ℕ)
-        × IsDueOf (S.files shelf.old) (outside (S.misses shelf.old) (S.faults shelf.old) (S.asked shelf.old) (O.faults out.old) (O.written out.old))
-        (outside (S.misses shelf.new) (S.faults shelf.new) (S.asked shelf.new) (O.faults out.new) (O.written out.new)) (Madtcmp files.entry.image.now files.entry.elcr files.entry.madt.now) status text
-        × IsDelivered (outside (S.misses shelf.old) (S.faults shelf.old) (S.asked shelf.old) (O.faults out.old) (O.written out.old))
-        (outside (S.misses shelf.new) (S.faults shelf.new) (S.asked shelf.new) (O.faults out.new) (O.written out.new)) result status text }
+        × IsDueOf (S.files shelf.old) (outside_of S.Shelf O.Sink shelf.old out.old) (outside_of S.Shelf O.Sink shelf.new out.new) (Madtcmp files.entry.image.now files.entry.elcr files.entry.madt.now) status text
+        × IsDelivered (outside_of S.Shelf O.Sink shelf.old out.old) (outside_of S.Shelf O.Sink shelf.new out.new) result status text }
     ensures asks { (n : ℕ) × (S.asked shelf.new ≤ S.asked shelf.old + n) × AsksOf (S.files shelf.old) (files_of (Madtcmp files.entry.image.now files.entry.elcr files.entry.madt.now)) n }
 {
     match take_image(alloc, files.image, shelf) {

@@ -8,7 +8,7 @@ ghost use Rattle.mpb_spec.specs.Plan.{plan_size};
 ghost use Rattle.mpf_pic_lines.specs.Lines.{IsPlayable};
 ghost use Rattle.mpf_played.specs.Played.{IsPlayedBehind};
 ghost use Rattle.mptab_calls.specs.Forms.{Pic, Calls, files_of};
-ghost use Rattle.mptab_calls.specs.Walk.{IsDueOf, IsDelivered, AsksOf, most_of, outside};
+ghost use Rattle.mptab_calls.specs.Walk.{IsDueOf, IsDelivered, AsksOf, most_of, outside_of};
 ghost use Rattle.mptab_calls.specs.Boards.{IsDescribed};
 
 use crate::board::{Described, refuse_board, take_described};
@@ -54,10 +54,8 @@ fn give_of_calls<S: Shelf, O: Sink>(
 ) -> u8
     requires { IsDescribed (S.files shelf.old) files.board.image.now files.board.script.now tables.now config }
     ensures due { (status : ℕ) × (text : List ℕ)
-        × IsDueOf (S.files shelf.old) (outside (S.misses shelf.old) (S.faults shelf.old) (S.asked shelf.old) (O.faults out.old) (O.written out.old))
-        (outside (S.misses shelf.new) (S.faults shelf.new) (S.asked shelf.new) (O.faults out.new) (O.written out.new)) (Pic files.entry.board.image.now files.entry.board.script.now files.entry.calls.now) status text
-        × IsDelivered (outside (S.misses shelf.old) (S.faults shelf.old) (S.asked shelf.old) (O.faults out.old) (O.written out.old))
-        (outside (S.misses shelf.new) (S.faults shelf.new) (S.asked shelf.new) (O.faults out.new) (O.written out.new)) result status text }
+        × IsDueOf (S.files shelf.old) (outside_of S.Shelf O.Sink shelf.old out.old) (outside_of S.Shelf O.Sink shelf.new out.new) (Pic files.entry.board.image.now files.entry.board.script.now files.entry.calls.now) status text
+        × IsDelivered (outside_of S.Shelf O.Sink shelf.old out.old) (outside_of S.Shelf O.Sink shelf.new out.new) result status text }
     ensures asks { S.asked shelf.new ≤ S.asked shelf.old + most_of (S.files shelf.old) (Calls files.entry.calls.now) }
 {
     match take_calls(alloc, files.calls, shelf) {
@@ -78,10 +76,8 @@ pub(crate) fn give_of_pic<S: Shelf, O: Sink>(
     out: &mut O,
 ) -> u8
     ensures due { (status : ℕ) × (text : List ℕ)
-        × IsDueOf (S.files shelf.old) (outside (S.misses shelf.old) (S.faults shelf.old) (S.asked shelf.old) (O.faults out.old) (O.written out.old))
-        (outside (S.misses shelf.new) (S.faults shelf.new) (S.asked shelf.new) (O.faults out.new) (O.written out.new)) (Pic files.entry.board.image.now files.entry.board.script.now files.entry.calls.now) status text
-        × IsDelivered (outside (S.misses shelf.old) (S.faults shelf.old) (S.asked shelf.old) (O.faults out.old) (O.written out.old))
-        (outside (S.misses shelf.new) (S.faults shelf.new) (S.asked shelf.new) (O.faults out.new) (O.written out.new)) result status text }
+        × IsDueOf (S.files shelf.old) (outside_of S.Shelf O.Sink shelf.old out.old) (outside_of S.Shelf O.Sink shelf.new out.new) (Pic files.entry.board.image.now files.entry.board.script.now files.entry.calls.now) status text
+        × IsDelivered (outside_of S.Shelf O.Sink shelf.old out.old) (outside_of S.Shelf O.Sink shelf.new out.new) result status text }
     ensures asks { (n : ℕ) × (S.asked shelf.new ≤ S.asked shelf.old + n) × AsksOf (S.files shelf.old) (files_of (Pic files.entry.board.image.now files.entry.board.script.now files.entry.calls.now)) n }
 {
     match take_described(alloc, files.board, shelf) {

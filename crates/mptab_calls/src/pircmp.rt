@@ -4,7 +4,7 @@ ghost use Rattle.std.specs.Prelude.{◌≡◌, ◌≤◌, ◌<◌, ◌+◌, ◌^
 ghost use Rattle.mpt_spec.specs.Canonical.{IsWellFormed};
 ghost use Rattle.mptab_calls.specs.Forms.{Pircmp, RoutingTable, files_of};
 ghost use Rattle.mptab_calls.specs.Commands.{ImageGives, IsPirCompared};
-ghost use Rattle.mptab_calls.specs.Walk.{IsDueOf, IsDelivered, AsksOf, most_of, outside};
+ghost use Rattle.mptab_calls.specs.Walk.{IsDueOf, IsDelivered, AsksOf, most_of, outside_of};
 
 use crate::answer::Answer;
 use crate::delivery::deliver_text;
@@ -44,10 +44,8 @@ fn give_of_pir<S: Shelf, O: Sink>(
     requires well_formed { IsWellFormed tables.now }
     requires low { tables.now.at < 2 ^ 32 }
     ensures due { (status : ℕ) × (text : List ℕ)
-        × IsDueOf (S.files shelf.old) (outside (S.misses shelf.old) (S.faults shelf.old) (S.asked shelf.old) (O.faults out.old) (O.written out.old))
-        (outside (S.misses shelf.new) (S.faults shelf.new) (S.asked shelf.new) (O.faults out.new) (O.written out.new)) (Pircmp files.entry.image.now files.entry.table.now) status text
-        × IsDelivered (outside (S.misses shelf.old) (S.faults shelf.old) (S.asked shelf.old) (O.faults out.old) (O.written out.old))
-        (outside (S.misses shelf.new) (S.faults shelf.new) (S.asked shelf.new) (O.faults out.new) (O.written out.new)) result status text }
+        × IsDueOf (S.files shelf.old) (outside_of S.Shelf O.Sink shelf.old out.old) (outside_of S.Shelf O.Sink shelf.new out.new) (Pircmp files.entry.image.now files.entry.table.now) status text
+        × IsDelivered (outside_of S.Shelf O.Sink shelf.old out.old) (outside_of S.Shelf O.Sink shelf.new out.new) result status text }
     ensures asks { S.asked shelf.new ≤ S.asked shelf.old + most_of (S.files shelf.old) (RoutingTable files.entry.table.now) }
 {
     match take_pir(alloc, files.table, shelf) {
@@ -67,10 +65,8 @@ pub(crate) fn give_of_pircmp<S: Shelf, O: Sink>(
     out: &mut O,
 ) -> u8
     ensures due { (status : ℕ) × (text : List ℕ)
-        × IsDueOf (S.files shelf.old) (outside (S.misses shelf.old) (S.faults shelf.old) (S.asked shelf.old) (O.faults out.old) (O.written out.old))
-        (outside (S.misses shelf.new) (S.faults shelf.new) (S.asked shelf.new) (O.faults out.new) (O.written out.new)) (Pircmp files.entry.image.now files.entry.table.now) status text
-        × IsDelivered (outside (S.misses shelf.old) (S.faults shelf.old) (S.asked shelf.old) (O.faults out.old) (O.written out.old))
-        (outside (S.misses shelf.new) (S.faults shelf.new) (S.asked shelf.new) (O.faults out.new) (O.written out.new)) result status text }
+        × IsDueOf (S.files shelf.old) (outside_of S.Shelf O.Sink shelf.old out.old) (outside_of S.Shelf O.Sink shelf.new out.new) (Pircmp files.entry.image.now files.entry.table.now) status text
+        × IsDelivered (outside_of S.Shelf O.Sink shelf.old out.old) (outside_of S.Shelf O.Sink shelf.new out.new) result status text }
     ensures asks { (n : ℕ) × (S.asked shelf.new ≤ S.asked shelf.old + n) × AsksOf (S.files shelf.old) (files_of (Pircmp files.entry.image.now files.entry.table.now)) n }
 {
     match take_image(alloc, files.image, shelf) {

@@ -5,7 +5,7 @@ ghost use Rattle.mpt_base.specs.Outside.{IsSizeTold};
 ghost use Rattle.mptab_calls.specs.Forms.{Report as AReport, limit_of, most_asked};
 ghost use Rattle.mptab_calls.specs.Commands.{ReportGives};
 ghost use Rattle.mptab_calls.specs.Walk.{most_of};
-ghost use Rattle.mptab_calls.specs.Ending.{IsEnding, shelves};
+ghost use Rattle.mptab_calls.specs.Ending.{IsEnding, IsUndisturbed, shelves_of};
 
 use crate::ending::{Ending, refused};
 use crate::file::{FileFailure, read_whole};
@@ -24,12 +24,10 @@ pub(crate) fn take_report<S: Shelf>(
     shelf: &mut S,
 ) -> Result<Report, Ending>
     ensures files_stay { S.files shelf.new ≡ S.files shelf.old }
-    ensures unfailed { IfOk result (λ r. S.faults shelf.new ≡ S.faults shelf.old) }
+    ensures quiet { IfOk result (λ r. IsUndisturbed (shelves_of S.Shelf shelf.old shelf.new)) }
     ensures report { IfOk result (λ r. ReportGives (S.files shelf.old) name.now r) }
     ensures few { IfOk result (λ r. length r.entries < 2 ^ 32) }
-    ensures ends { IfErr result (IsEnding (S.files shelf.old)
-        (shelves (S.misses shelf.old) (S.misses shelf.new) (S.faults shelf.old) (S.faults shelf.new))
-        (AReport name.now)) }
+    ensures ends { IfErr result (IsEnding (S.files shelf.old) (shelves_of S.Shelf shelf.old shelf.new) (AReport name.now)) }
     ensures asks { S.asked shelf.new ≤ S.asked shelf.old + most_of (S.files shelf.old) (AReport name.now) }
 {
     match shelf.size(name) {
@@ -50,12 +48,10 @@ fn report_of_size<S: Shelf>(
     requires told { IsSizeTold (S.files shelf.old) name.now (Some size) }
     requires within { size ≤ limit_of (AReport name.now) }
     ensures files_stay { S.files shelf.new ≡ S.files shelf.old }
-    ensures unfailed { IfOk result (λ r. S.faults shelf.new ≡ S.faults shelf.old) }
+    ensures quiet { IfOk result (λ r. IsUndisturbed (shelves_of S.Shelf shelf.old shelf.new)) }
     ensures report { IfOk result (λ r. ReportGives (S.files shelf.old) name.now r) }
     ensures few { IfOk result (λ r. length r.entries < 2 ^ 32) }
-    ensures ends { IfErr result (IsEnding (S.files shelf.old)
-        (shelves (S.misses shelf.old) (S.misses shelf.new) (S.faults shelf.old) (S.faults shelf.new))
-        (AReport name.now)) }
+    ensures ends { IfErr result (IsEnding (S.files shelf.old) (shelves_of S.Shelf shelf.old shelf.new) (AReport name.now)) }
     ensures asks { S.asked shelf.new ≤ S.asked shelf.old + most_asked (AReport name.now) size }
 {
     let bytes = match read_whole(alloc, shelf, name, size) {

@@ -7,7 +7,7 @@ ghost use Rattle.mpt_spec.specs.Canonical.{IsWellFormed};
 ghost use Rattle.mptab_calls.specs.Forms.{Script as AScript, limit_of, most_asked};
 ghost use Rattle.mptab_calls.specs.Commands.{ImageGives, IsGivenBoard};
 ghost use Rattle.mptab_calls.specs.Walk.{most_of};
-ghost use Rattle.mptab_calls.specs.Ending.{IsEnding, shelves};
+ghost use Rattle.mptab_calls.specs.Ending.{IsEnding, IsUndisturbed, shelves_of};
 
 use crate::ending::{Ending, refused};
 use crate::file::{FileFailure, read_whole};
@@ -34,12 +34,9 @@ pub(crate) fn take_script<S: Shelf>(
     requires tables { ImageGives (S.files shelf.old) files.image.now tables.now }
     requires well_formed { IsWellFormed tables.now }
     ensures files_stay { S.files shelf.new ≡ S.files shelf.old }
-    ensures misses { S.misses shelf.old ≤ S.misses shelf.new }
-    ensures unfailed { IfOk result (λ c. S.faults shelf.new ≡ S.faults shelf.old) }
+    ensures quiet { IfOk result (λ c. IsUndisturbed (shelves_of S.Shelf shelf.old shelf.new)) }
     ensures board { IfOk result (IsGivenBoard (S.files shelf.old) files.entry.image.now files.entry.script.now tables.now) }
-    ensures ends { IfErr result (IsEnding (S.files shelf.old)
-        (shelves (S.misses shelf.old) (S.misses shelf.new) (S.faults shelf.old) (S.faults shelf.new))
-        (AScript files.entry.image.now files.entry.script.now)) }
+    ensures ends { IfErr result (IsEnding (S.files shelf.old) (shelves_of S.Shelf shelf.old shelf.new) (AScript files.entry.image.now files.entry.script.now)) }
     ensures asks { S.asked shelf.new ≤ S.asked shelf.old + most_of (S.files shelf.old) (AScript files.entry.image.now files.entry.script.now) }
 {
     match shelf.size(files.script) {
@@ -63,12 +60,9 @@ fn script_of_size<S: Shelf>(
     requires told { IsSizeTold (S.files shelf.old) files.script.now (Some size) }
     requires within { size ≤ limit_of (AScript files.image.now files.script.now) }
     ensures files_stay { S.files shelf.new ≡ S.files shelf.old }
-    ensures misses { S.misses shelf.old ≤ S.misses shelf.new }
-    ensures unfailed { IfOk result (λ c. S.faults shelf.new ≡ S.faults shelf.old) }
+    ensures quiet { IfOk result (λ c. IsUndisturbed (shelves_of S.Shelf shelf.old shelf.new)) }
     ensures board { IfOk result (IsGivenBoard (S.files shelf.old) files.entry.image.now files.entry.script.now tables.now) }
-    ensures ends { IfErr result (IsEnding (S.files shelf.old)
-        (shelves (S.misses shelf.old) (S.misses shelf.new) (S.faults shelf.old) (S.faults shelf.new))
-        (AScript files.entry.image.now files.entry.script.now)) }
+    ensures ends { IfErr result (IsEnding (S.files shelf.old) (shelves_of S.Shelf shelf.old shelf.new) (AScript files.entry.image.now files.entry.script.now)) }
     ensures asks { S.asked shelf.new ≤ S.asked shelf.old + most_asked (AScript files.entry.image.now files.entry.script.now) size }
 {
     let bytes = match read_whole(alloc, shelf, files.script, size) {

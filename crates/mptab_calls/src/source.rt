@@ -5,7 +5,7 @@ ghost use Rattle.mpt_spec.specs.Canonical.{IsWellFormed};
 ghost use Rattle.mptab_calls.specs.Forms.{named_of};
 ghost use Rattle.mptab_calls.specs.Commands.{GivesTables};
 ghost use Rattle.mptab_calls.specs.Walk.{most_of};
-ghost use Rattle.mptab_calls.specs.Ending.{IsEnding, shelves};
+ghost use Rattle.mptab_calls.specs.Ending.{IsEnding, IsUndisturbed, shelves_of};
 
 use crate::ending::Ending;
 use crate::image::take_image;
@@ -18,13 +18,11 @@ use std::alloc::Global;
 /// The tables that the file gives, or why the walk ends there.
 pub(crate) fn take<S: Shelf>(alloc: Global, source: Source, shelf: &mut S) -> Result<Tables, Ending>
     ensures files_stay { S.files shelf.new ≡ S.files shelf.old }
-    ensures unfailed { IfOk result (λ t. S.faults shelf.new ≡ S.faults shelf.old) }
+    ensures quiet { IfOk result (λ t. IsUndisturbed (shelves_of S.Shelf shelf.old shelf.new)) }
     ensures tables { IfOk result (λ t. GivesTables (S.files shelf.old) source.entry t) }
     ensures well_formed { IfOk result IsWellFormed }
     ensures low { IfOk result (λ t. t.at < 2 ^ 32) }
-    ensures ends { IfErr result (IsEnding (S.files shelf.old)
-        (shelves (S.misses shelf.old) (S.misses shelf.new) (S.faults shelf.old) (S.faults shelf.new))
-        (named_of source.entry)) }
+    ensures ends { IfErr result (IsEnding (S.files shelf.old) (shelves_of S.Shelf shelf.old shelf.new) (named_of source.entry)) }
     ensures asks { S.asked shelf.new ≤ S.asked shelf.old + most_of (S.files shelf.old) (named_of source.entry) }
 {
     match source {

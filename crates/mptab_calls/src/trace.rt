@@ -2,7 +2,7 @@
 
 ghost use Rattle.std.specs.Prelude.{◌≤◌, ◌+◌, ℕ, List};
 ghost use Rattle.mptab_calls.specs.Forms.{Trace, files_of};
-ghost use Rattle.mptab_calls.specs.Walk.{IsDueOf, IsDelivered, AsksOf, outside};
+ghost use Rattle.mptab_calls.specs.Walk.{IsDueOf, IsDelivered, AsksOf, outside_of};
 
 use crate::board::{refuse_board, take_board};
 use crate::delivery::deliver_text;
@@ -21,10 +21,8 @@ pub(crate) fn give_of_trace<S: Shelf, O: Sink>(
     out: &mut O,
 ) -> u8
     ensures due { (status : ℕ) × (text : List ℕ)
-        × IsDueOf (S.files shelf.old) (outside (S.misses shelf.old) (S.faults shelf.old) (S.asked shelf.old) (O.faults out.old) (O.written out.old))
-        (outside (S.misses shelf.new) (S.faults shelf.new) (S.asked shelf.new) (O.faults out.new) (O.written out.new)) (Trace files.entry.image.now files.entry.script.now) status text
-        × IsDelivered (outside (S.misses shelf.old) (S.faults shelf.old) (S.asked shelf.old) (O.faults out.old) (O.written out.old))
-        (outside (S.misses shelf.new) (S.faults shelf.new) (S.asked shelf.new) (O.faults out.new) (O.written out.new)) result status text }
+        × IsDueOf (S.files shelf.old) (outside_of S.Shelf O.Sink shelf.old out.old) (outside_of S.Shelf O.Sink shelf.new out.new) (Trace files.entry.image.now files.entry.script.now) status text
+        × IsDelivered (outside_of S.Shelf O.Sink shelf.old out.old) (outside_of S.Shelf O.Sink shelf.new out.new) result status text }
     ensures asks { (n : ℕ) × (S.asked shelf.new ≤ S.asked shelf.old + n) × AsksOf (S.files shelf.old) (files_of (Trace files.entry.image.now files.entry.script.now)) n }
 {
     match take_board(alloc, files, shelf) {

@@ -17,7 +17,7 @@ loop-area-preserved g c =
     record {
       files = own.files_stay ∙ held.files;
       faults = own.unfailed (λ e. cc) ∙ held.faults;
-      misses = omega (arith, own.misses_never_fall, held.misses);
+      misses = own.misses_stay ∙ held.misses;
       asked = omega (arith, own.asks, rw more at held.asked);
       areas = (rw more at held.areas).1;
       passed = passed-next (g.S.Shelf.files c.args.shelf.now) c.args.name.now (get_or areas i none) (drop (i + 1) areas) (flat_map places_in areas) (rw held.files at own.none) (rw more at held.passed);

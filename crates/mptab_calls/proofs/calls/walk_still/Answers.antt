@@ -18,4 +18,4 @@ pub returns-in-Some-clause-asks : goal.returns-in-Some-clause-asks
 returns-in-Some-clause-asks g c = inr (form_of_still c.in-Some.command, still_form c.in-Some.command, c.in-Some.ensures, c.give.ensures.asks)
 
 pub returns-in-None-clause-answer : goal.returns-in-None-clause-answer
-returns-in-None-clause-answer g c = (2, usage_line, inl ((c.in-None.ensures, refl, refl), refl), c.deliver_line.ensures)
+returns-in-None-clause-answer g c = (2, usage_line, inl ((c.in-None.ensures, refl, refl), (refl, refl)), c.deliver_line.ensures)

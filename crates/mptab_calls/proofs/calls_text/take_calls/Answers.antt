@@ -1,7 +1,7 @@
 use Rattle.std.proofs.Common.{ℕ, ◌+◌, ◌≤◌, refl, subst}
 use Rattle.mpf_pic_lines.specs.Lines.{IsTextOf, IsFirstBadLine}
 use Rattle.mptab_calls.specs.Forms.{Calls}
-use Rattle.mptab_calls.specs.Ending.{shelves}
+use Rattle.mptab_calls.specs.Ending.{shelves_of}
 use Rattle.mptab_calls.specs.Limited.{RefusesCalls}
 use Rattle.mptab_calls.proofs.LimitedLemmas.{held-taken, held-ended, held-read, most_within-most}
 use Rattle.mptab_calls.proofs.calls_text.take_calls.Goals as goal
@@ -11,7 +11,7 @@ returns-in-Ok-clause-calls g c = held-taken (g.S.Shelf.files c.args.shelf.now) (
 
 pub returns-in-Ok-clause-ends : goal.returns-in-Ok-clause-ends
 returns-in-Ok-clause-ends g c =
-    held-ended (g.S.Shelf.files c.args.shelf.now) (Calls c.args.name.now) c.in-Ok.bytes.items c.in-Ok.ensures.bytes c.calls_in.result (shelves (g.S.Shelf.misses c.args.shelf.now) (g.S.Shelf.misses c.take_bytes.new.shelf) (g.S.Shelf.faults c.args.shelf.now) (g.S.Shelf.faults c.take_bytes.new.shelf)) (RefusesCalls c.in-Ok.bytes.items) c.in-Ok.ensures.unfailed
+    held-ended (g.S.Shelf.files c.args.shelf.now) (Calls c.args.name.now) c.in-Ok.bytes.items c.in-Ok.ensures.bytes c.calls_in.result (shelves_of g.S.Shelf c.args.shelf.now c.take_bytes.new.shelf) (RefusesCalls c.in-Ok.bytes.items) c.in-Ok.ensures.quiet
     (λ status text h. (h.0, h.1, held-read (g.S.Shelf.files c.args.shelf.now) (Calls c.args.name.now) c.in-Ok.bytes.items c.in-Ok.ensures.bytes (λ calls. IsFirstBadLine calls h.1) h.2, h.3)) (rw c.as_slice.ensures.value at c.calls_in.ensures.refused)
 
 pub returns-in-Err-clause-ends : goal.returns-in-Err-clause-ends

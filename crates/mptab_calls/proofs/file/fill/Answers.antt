@@ -8,7 +8,7 @@ loop-at-preserved g c =
     let len : length c.read_at.new.buf ≡ c.min-end.result - c.loop-at.at = c.read_at.auto.buf ∙ simp (length-take, length-drop) (omega arith) in
     record {
       files = c.in_ok-read_at.ensures.files_stay ∙ c.loop-at.invariant.files;
-      misses = omega (arith, c.loop-at.invariant.misses, c.in_ok-read_at.ensures.misses_never_fall);
+      misses = c.in_ok-read_at.ensures.misses_stay ∙ c.loop-at.invariant.misses;
       faults = c.in_ok-read_at.ensures.unfailed ∙ c.loop-at.invariant.faults;
       asked = omega arith;
       within = omega arith;

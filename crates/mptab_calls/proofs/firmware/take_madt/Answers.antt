@@ -2,7 +2,7 @@ use Rattle.std.proofs.Common.{ℕ, ◌+◌, ◌≤◌, refl, subst}
 use Rattle.mpf_madt.specs.Table.{IsMadt}
 use Rattle.mpf_madt.specs.Faults.{IsFirstMadtFault}
 use Rattle.mptab_calls.specs.Forms.{AcpiTable}
-use Rattle.mptab_calls.specs.Ending.{shelves}
+use Rattle.mptab_calls.specs.Ending.{shelves_of}
 use Rattle.mptab_calls.specs.Limited.{RefusesMadt}
 use Rattle.mptab_calls.proofs.LimitedLemmas.{held-taken, held-ended, held-read, most_within-most}
 use Rattle.mptab_calls.proofs.firmware.take_madt.Goals as goal
@@ -12,7 +12,7 @@ returns-in-Ok-clause-table g c = held-taken (g.S.Shelf.files c.args.shelf.now) (
 
 pub returns-in-Ok-clause-ends : goal.returns-in-Ok-clause-ends
 returns-in-Ok-clause-ends g c =
-    held-ended (g.S.Shelf.files c.args.shelf.now) (AcpiTable c.args.name.now) c.in-Ok.bytes.items c.in-Ok.ensures.bytes c.madt_in.result (shelves (g.S.Shelf.misses c.args.shelf.now) (g.S.Shelf.misses c.take_bytes.new.shelf) (g.S.Shelf.faults c.args.shelf.now) (g.S.Shelf.faults c.take_bytes.new.shelf)) (RefusesMadt c.in-Ok.bytes.items) c.in-Ok.ensures.unfailed
+    held-ended (g.S.Shelf.files c.args.shelf.now) (AcpiTable c.args.name.now) c.in-Ok.bytes.items c.in-Ok.ensures.bytes c.madt_in.result (shelves_of g.S.Shelf c.args.shelf.now c.take_bytes.new.shelf) (RefusesMadt c.in-Ok.bytes.items) c.in-Ok.ensures.quiet
     (λ status text h. (h.0, h.1, h.2, held-read (g.S.Shelf.files c.args.shelf.now) (AcpiTable c.args.name.now) c.in-Ok.bytes.items c.in-Ok.ensures.bytes (λ bytes. IsFirstMadtFault bytes h.1 h.2) h.3, h.4)) (rw c.as_slice.ensures.value at c.madt_in.ensures.refused)
 
 pub returns-in-Err-clause-ends : goal.returns-in-Err-clause-ends

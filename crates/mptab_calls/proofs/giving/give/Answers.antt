@@ -1,7 +1,7 @@
 use Rattle.std.proofs.Common.{refl, sym, subst}
 use Rattle.mptab_calls.specs.declared.words.StillCommand.{StillCommand}
 use Rattle.mptab_calls.specs.Forms.{form_of_still}
-use Rattle.mptab_calls.specs.Walk.{outside, IsDueOf}
+use Rattle.mptab_calls.specs.Walk.{IsDueOf, outside_of}
 use Rattle.mptab_calls.proofs.AnswerLemmas.{IsDrillDue-due}
 use Rattle.mptab_calls.proofs.giving.give.Goals as goal
 
@@ -10,7 +10,7 @@ returns-in-OfTables-clause-due g c =
     let due = c.give_of_tables.ensures.due in (
       due.0,
       due.1,
-      subst (λ (d : StillCommand). IsDueOf (g.S.Shelf.files c.args.shelf.now) (outside (g.S.Shelf.misses c.args.shelf.now) (g.S.Shelf.faults c.args.shelf.now) (g.S.Shelf.asked c.args.shelf.now) (g.O.Sink.faults c.args.out.now) (g.O.Sink.written c.args.out.now)) (outside (g.S.Shelf.misses c.give_of_tables.new.shelf) (g.S.Shelf.faults c.give_of_tables.new.shelf) (g.S.Shelf.asked c.give_of_tables.new.shelf) (g.O.Sink.faults c.give_of_tables.new.out) (g.O.Sink.written c.give_of_tables.new.out)) (form_of_still d) due.0 due.1) (sym c.in-OfTables.is) due.2,
+      subst (λ (d : StillCommand). IsDueOf (g.S.Shelf.files c.args.shelf.now) (outside_of g.S.Shelf g.O.Sink c.args.shelf.now c.args.out.now) (outside_of g.S.Shelf g.O.Sink c.give_of_tables.new.shelf c.give_of_tables.new.out) (form_of_still d) due.0 due.1) (sym c.in-OfTables.is) due.2,
       due.3,
     )
 
@@ -19,7 +19,7 @@ returns-in-Trace-clause-due g c =
     let due = c.give_of_trace.ensures.due in (
       due.0,
       due.1,
-      subst (λ (d : StillCommand). IsDueOf (g.S.Shelf.files c.args.shelf.now) (outside (g.S.Shelf.misses c.args.shelf.now) (g.S.Shelf.faults c.args.shelf.now) (g.S.Shelf.asked c.args.shelf.now) (g.O.Sink.faults c.args.out.now) (g.O.Sink.written c.args.out.now)) (outside (g.S.Shelf.misses c.give_of_trace.new.shelf) (g.S.Shelf.faults c.give_of_trace.new.shelf) (g.S.Shelf.asked c.give_of_trace.new.shelf) (g.O.Sink.faults c.give_of_trace.new.out) (g.O.Sink.written c.give_of_trace.new.out)) (form_of_still d) due.0 due.1) (sym c.in-Trace.is) due.2,
+      subst (λ (d : StillCommand). IsDueOf (g.S.Shelf.files c.args.shelf.now) (outside_of g.S.Shelf g.O.Sink c.args.shelf.now c.args.out.now) (outside_of g.S.Shelf g.O.Sink c.give_of_trace.new.shelf c.give_of_trace.new.out) (form_of_still d) due.0 due.1) (sym c.in-Trace.is) due.2,
       due.3,
     )
 
@@ -28,7 +28,7 @@ returns-in-Replay-clause-due g c =
     let due = c.give_of_replay.ensures.due in (
       due.0,
       due.1,
-      subst (λ (d : StillCommand). IsDueOf (g.S.Shelf.files c.args.shelf.now) (outside (g.S.Shelf.misses c.args.shelf.now) (g.S.Shelf.faults c.args.shelf.now) (g.S.Shelf.asked c.args.shelf.now) (g.O.Sink.faults c.args.out.now) (g.O.Sink.written c.args.out.now)) (outside (g.S.Shelf.misses c.give_of_replay.new.shelf) (g.S.Shelf.faults c.give_of_replay.new.shelf) (g.S.Shelf.asked c.give_of_replay.new.shelf) (g.O.Sink.faults c.give_of_replay.new.out) (g.O.Sink.written c.give_of_replay.new.out)) (form_of_still d) due.0 due.1) (sym c.in-Replay.is) due.2,
+      subst (λ (d : StillCommand). IsDueOf (g.S.Shelf.files c.args.shelf.now) (outside_of g.S.Shelf g.O.Sink c.args.shelf.now c.args.out.now) (outside_of g.S.Shelf g.O.Sink c.give_of_replay.new.shelf c.give_of_replay.new.out) (form_of_still d) due.0 due.1) (sym c.in-Replay.is) due.2,
       due.3,
     )
 
@@ -37,7 +37,7 @@ returns-in-Madtcmp-clause-due g c =
     let due = c.give_of_madtcmp.ensures.due in (
       due.0,
       due.1,
-      subst (λ (d : StillCommand). IsDueOf (g.S.Shelf.files c.args.shelf.now) (outside (g.S.Shelf.misses c.args.shelf.now) (g.S.Shelf.faults c.args.shelf.now) (g.S.Shelf.asked c.args.shelf.now) (g.O.Sink.faults c.args.out.now) (g.O.Sink.written c.args.out.now)) (outside (g.S.Shelf.misses c.give_of_madtcmp.new.shelf) (g.S.Shelf.faults c.give_of_madtcmp.new.shelf) (g.S.Shelf.asked c.give_of_madtcmp.new.shelf) (g.O.Sink.faults c.give_of_madtcmp.new.out) (g.O.Sink.written c.give_of_madtcmp.new.out)) (form_of_still d) due.0 due.1) (sym c.in-Madtcmp.is) due.2,
+      subst (λ (d : StillCommand). IsDueOf (g.S.Shelf.files c.args.shelf.now) (outside_of g.S.Shelf g.O.Sink c.args.shelf.now c.args.out.now) (outside_of g.S.Shelf g.O.Sink c.give_of_madtcmp.new.shelf c.give_of_madtcmp.new.out) (form_of_still d) due.0 due.1) (sym c.in-Madtcmp.is) due.2,
       due.3,
     )
 
@@ -46,7 +46,7 @@ returns-in-Pircmp-clause-due g c =
     let due = c.give_of_pircmp.ensures.due in (
       due.0,
       due.1,
-      subst (λ (d : StillCommand). IsDueOf (g.S.Shelf.files c.args.shelf.now) (outside (g.S.Shelf.misses c.args.shelf.now) (g.S.Shelf.faults c.args.shelf.now) (g.S.Shelf.asked c.args.shelf.now) (g.O.Sink.faults c.args.out.now) (g.O.Sink.written c.args.out.now)) (outside (g.S.Shelf.misses c.give_of_pircmp.new.shelf) (g.S.Shelf.faults c.give_of_pircmp.new.shelf) (g.S.Shelf.asked c.give_of_pircmp.new.shelf) (g.O.Sink.faults c.give_of_pircmp.new.out) (g.O.Sink.written c.give_of_pircmp.new.out)) (form_of_still d) due.0 due.1) (sym c.in-Pircmp.is) due.2,
+      subst (λ (d : StillCommand). IsDueOf (g.S.Shelf.files c.args.shelf.now) (outside_of g.S.Shelf g.O.Sink c.args.shelf.now c.args.out.now) (outside_of g.S.Shelf g.O.Sink c.give_of_pircmp.new.shelf c.give_of_pircmp.new.out) (form_of_still d) due.0 due.1) (sym c.in-Pircmp.is) due.2,
       due.3,
     )
 
@@ -55,7 +55,7 @@ returns-in-Pic-clause-due g c =
     let due = c.give_of_pic.ensures.due in (
       due.0,
       due.1,
-      subst (λ (d : StillCommand). IsDueOf (g.S.Shelf.files c.args.shelf.now) (outside (g.S.Shelf.misses c.args.shelf.now) (g.S.Shelf.faults c.args.shelf.now) (g.S.Shelf.asked c.args.shelf.now) (g.O.Sink.faults c.args.out.now) (g.O.Sink.written c.args.out.now)) (outside (g.S.Shelf.misses c.give_of_pic.new.shelf) (g.S.Shelf.faults c.give_of_pic.new.shelf) (g.S.Shelf.asked c.give_of_pic.new.shelf) (g.O.Sink.faults c.give_of_pic.new.out) (g.O.Sink.written c.give_of_pic.new.out)) (form_of_still d) due.0 due.1) (sym c.in-Pic.is) due.2,
+      subst (λ (d : StillCommand). IsDueOf (g.S.Shelf.files c.args.shelf.now) (outside_of g.S.Shelf g.O.Sink c.args.shelf.now c.args.out.now) (outside_of g.S.Shelf g.O.Sink c.give_of_pic.new.shelf c.give_of_pic.new.out) (form_of_still d) due.0 due.1) (sym c.in-Pic.is) due.2,
       due.3,
     )
 
@@ -64,7 +64,7 @@ returns-in-Drill-clause-due g c =
     let due = c.give_of_drill.ensures in (
       due.0,
       due.1,
-      subst (λ (d : StillCommand). IsDueOf (g.S.Shelf.files c.args.shelf.now) (outside (g.S.Shelf.misses c.args.shelf.now) (g.S.Shelf.faults c.args.shelf.now) (g.S.Shelf.asked c.args.shelf.now) (g.O.Sink.faults c.args.out.now) (g.O.Sink.written c.args.out.now)) (outside (g.S.Shelf.misses c.args.shelf.now) (g.S.Shelf.faults c.args.shelf.now) (g.S.Shelf.asked c.args.shelf.now) (g.O.Sink.faults c.give_of_drill.new.out) (g.O.Sink.written c.give_of_drill.new.out)) (form_of_still d) due.0 due.1) (sym c.in-Drill.is)
-          (IsDrillDue-due (g.S.Shelf.files c.args.shelf.now) (outside (g.S.Shelf.misses c.args.shelf.now) (g.S.Shelf.faults c.args.shelf.now) (g.S.Shelf.asked c.args.shelf.now) (g.O.Sink.faults c.args.out.now) (g.O.Sink.written c.args.out.now)) (outside (g.S.Shelf.misses c.args.shelf.now) (g.S.Shelf.faults c.args.shelf.now) (g.S.Shelf.asked c.args.shelf.now) (g.O.Sink.faults c.give_of_drill.new.out) (g.O.Sink.written c.give_of_drill.new.out)) c.in-Drill.n due.0 due.1 refl due.2),
+      subst (λ (d : StillCommand). IsDueOf (g.S.Shelf.files c.args.shelf.now) (outside_of g.S.Shelf g.O.Sink c.args.shelf.now c.args.out.now) (outside_of g.S.Shelf g.O.Sink c.args.shelf.now c.give_of_drill.new.out) (form_of_still d) due.0 due.1) (sym c.in-Drill.is)
+          (IsDrillDue-due (g.S.Shelf.files c.args.shelf.now) (outside_of g.S.Shelf g.O.Sink c.args.shelf.now c.args.out.now) (outside_of g.S.Shelf g.O.Sink c.args.shelf.now c.give_of_drill.new.out) c.in-Drill.n due.0 due.1 (refl, refl) due.2),
       due.3,
     )

@@ -1,5 +1,5 @@
 use Rattle.mptab_calls.specs.declared.ending.Ending.TheVariants.{NoMemory}
-use Rattle.mptab_calls.specs.Walk.{outside}
+use Rattle.mptab_calls.specs.Walk.{outside_of}
 use Rattle.mptab_calls.specs.Ending.{ending_status, ending_text}
 use Rattle.mptab_calls.specs.Forms.{named_of}
 use Rattle.mptab_calls.proofs.AnswerLemmas.{IsEnding-due, IsEnding-given, IsAnswerTo-due, IsReadyFor-given, AsksOf-source}
@@ -11,8 +11,8 @@ returns-in-Ok-answer_to-clause-due g c =
     let answer = c.in-Ok-answer_to.answer in (
       answer.status,
       answer.text.items,
-      IsAnswerTo-due (g.S.Shelf.files c.args.shelf.now) (outside (g.S.Shelf.misses c.args.shelf.now) (g.S.Shelf.faults c.args.shelf.now) (g.S.Shelf.asked c.args.shelf.now) (g.O.Sink.faults c.args.out.now) (g.O.Sink.written c.args.out.now)) (outside (g.S.Shelf.misses c.take.new.shelf) (g.S.Shelf.faults c.take.new.shelf) (g.S.Shelf.asked c.take.new.shelf) (g.O.Sink.faults c.deliver_text.new.out) (g.O.Sink.written c.deliver_text.new.out)) c.args.command c.source_named-source.result c.in-Ok.tables answer.status answer.text.items
-          c.source_named-source.ensures facts.tables facts.well_formed facts.low facts.unfailed c.in-Ok-answer_to.ensures,
+      IsAnswerTo-due (g.S.Shelf.files c.args.shelf.now) (outside_of g.S.Shelf g.O.Sink c.args.shelf.now c.args.out.now) (outside_of g.S.Shelf g.O.Sink c.take.new.shelf c.deliver_text.new.out) c.args.command c.source_named-source.result c.in-Ok.tables answer.status answer.text.items
+          c.source_named-source.ensures facts.tables facts.well_formed facts.low facts.quiet c.in-Ok-answer_to.ensures,
       rw c.as_slice.ensures.value at c.deliver_text.ensures,
     )
 
@@ -24,8 +24,8 @@ returns-in-Err-answer_to-clause-due g c =
     let facts = c.in-Ok.ensures in (
       ending_status NoMemory,
       ending_text c.name_in.result.now NoMemory,
-      IsEnding-due (g.S.Shelf.files c.args.shelf.now) (outside (g.S.Shelf.misses c.args.shelf.now) (g.S.Shelf.faults c.args.shelf.now) (g.S.Shelf.asked c.args.shelf.now) (g.O.Sink.faults c.args.out.now) (g.O.Sink.written c.args.out.now)) (outside (g.S.Shelf.misses c.take.new.shelf) (g.S.Shelf.faults c.take.new.shelf) (g.S.Shelf.asked c.take.new.shelf) (g.O.Sink.faults c.refuse.new.out) (g.O.Sink.written c.refuse.new.out)) c.args.command (named_of c.source_named-source.result) c.name_in.result.now NoMemory c.source_named-source.ensures c.name_in.ensures
-          (IsEnding-given (g.S.Shelf.files c.args.shelf.now) (outside (g.S.Shelf.misses c.args.shelf.now) (g.S.Shelf.faults c.args.shelf.now) (g.S.Shelf.asked c.args.shelf.now) (g.O.Sink.faults c.args.out.now) (g.O.Sink.written c.args.out.now)) (outside (g.S.Shelf.misses c.take.new.shelf) (g.S.Shelf.faults c.take.new.shelf) (g.S.Shelf.asked c.take.new.shelf) (g.O.Sink.faults c.refuse.new.out) (g.O.Sink.written c.refuse.new.out)) c.source_named-source.result c.in-Ok.tables facts.tables facts.unfailed),
+      IsEnding-due (g.S.Shelf.files c.args.shelf.now) (outside_of g.S.Shelf g.O.Sink c.args.shelf.now c.args.out.now) (outside_of g.S.Shelf g.O.Sink c.take.new.shelf c.refuse.new.out) c.args.command (named_of c.source_named-source.result) c.name_in.result.now NoMemory c.source_named-source.ensures c.name_in.ensures
+          (IsEnding-given (g.S.Shelf.files c.args.shelf.now) (outside_of g.S.Shelf g.O.Sink c.args.shelf.now c.args.out.now) (outside_of g.S.Shelf g.O.Sink c.take.new.shelf c.refuse.new.out) c.source_named-source.result c.in-Ok.tables facts.tables facts.quiet),
       c.refuse.ensures,
     )
 
@@ -37,7 +37,7 @@ returns-in-Err-clause-due g c =
     let ending = c.in-Err.ending in (
       ending_status ending,
       ending_text c.name_in-in-Err.result.now ending,
-      IsEnding-due (g.S.Shelf.files c.args.shelf.now) (outside (g.S.Shelf.misses c.args.shelf.now) (g.S.Shelf.faults c.args.shelf.now) (g.S.Shelf.asked c.args.shelf.now) (g.O.Sink.faults c.args.out.now) (g.O.Sink.written c.args.out.now)) (outside (g.S.Shelf.misses c.take.new.shelf) (g.S.Shelf.faults c.take.new.shelf) (g.S.Shelf.asked c.take.new.shelf) (g.O.Sink.faults c.refuse-in-Err.new.out) (g.O.Sink.written c.refuse-in-Err.new.out)) c.args.command (named_of c.source_named-source.result) c.name_in-in-Err.result.now ending c.source_named-source.ensures c.name_in-in-Err.ensures c.in-Err.ensures.ends,
+      IsEnding-due (g.S.Shelf.files c.args.shelf.now) (outside_of g.S.Shelf g.O.Sink c.args.shelf.now c.args.out.now) (outside_of g.S.Shelf g.O.Sink c.take.new.shelf c.refuse-in-Err.new.out) c.args.command (named_of c.source_named-source.result) c.name_in-in-Err.result.now ending c.source_named-source.ensures c.name_in-in-Err.ensures c.in-Err.ensures.ends,
       c.refuse-in-Err.ensures,
     )
 

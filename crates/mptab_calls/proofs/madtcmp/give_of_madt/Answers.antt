@@ -1,7 +1,7 @@
 use Rattle.std.proofs.Common.{refl}
 use Rattle.mptab_calls.specs.declared.ending.Ending.TheVariants.{NoMemory}
 use Rattle.mptab_calls.specs.Forms.{Madtcmp, AcpiTable}
-use Rattle.mptab_calls.specs.Walk.{outside}
+use Rattle.mptab_calls.specs.Walk.{outside_of}
 use Rattle.mptab_calls.specs.Ending.{ending_status, ending_text}
 use Rattle.mptab_calls.proofs.SecondLemmas.{second-ends, second-unmade, second-due, found-there}
 use Rattle.mptab_calls.proofs.madtcmp.give_of_madt.Goals as goal
@@ -14,7 +14,7 @@ returns-in-Ok-compared-clause-due g c =
     let compared = c.in-Ok-compared.ensures in (
       answer.status,
       answer.text.items,
-      second-due (g.S.Shelf.files c.args.shelf.now) (Madtcmp c.args.files.image.now c.args.files.elcr c.args.files.madt.now) c.args.files.image.now (AcpiTable c.args.files.madt.now) refl c.args.tables.now c.requires.gives (outside (g.S.Shelf.misses c.args.shelf.now) (g.S.Shelf.faults c.args.shelf.now) (g.S.Shelf.asked c.args.shelf.now) (g.O.Sink.faults c.args.out.now) (g.O.Sink.written c.args.out.now)) (outside (g.S.Shelf.misses c.take_madt.new.shelf) (g.S.Shelf.faults c.take_madt.new.shelf) (g.S.Shelf.asked c.take_madt.new.shelf) (g.O.Sink.faults c.deliver_text.new.out) (g.O.Sink.written c.deliver_text.new.out)) answer.status answer.text.items facts.unfailed (table, facts.table)
+      second-due (g.S.Shelf.files c.args.shelf.now) (Madtcmp c.args.files.image.now c.args.files.elcr c.args.files.madt.now) c.args.files.image.now (AcpiTable c.args.files.madt.now) refl c.args.tables.now c.requires.gives (outside_of g.S.Shelf g.O.Sink c.args.shelf.now c.args.out.now) (outside_of g.S.Shelf g.O.Sink c.take_madt.new.shelf c.deliver_text.new.out) answer.status answer.text.items facts.quiet (table, facts.table)
           (found-there _ answer.status compared.0)
           (c.args.tables.now, c.requires.well_formed, c.requires.low, c.requires.gives, (table, facts.table, compared)),
       rw c.as_slice.ensures.value at c.deliver_text.ensures,
@@ -24,7 +24,7 @@ pub returns-in-Ok-clause-due : goal.returns-in-Ok-clause-due
 returns-in-Ok-clause-due g c = (
   ending_status NoMemory,
   ending_text c.args.files.madt.now NoMemory,
-  second-unmade (g.S.Shelf.files c.args.shelf.now) (Madtcmp c.args.files.image.now c.args.files.elcr c.args.files.madt.now) c.args.files.image.now (AcpiTable c.args.files.madt.now) refl c.args.tables.now c.requires.gives (outside (g.S.Shelf.misses c.args.shelf.now) (g.S.Shelf.faults c.args.shelf.now) (g.S.Shelf.asked c.args.shelf.now) (g.O.Sink.faults c.args.out.now) (g.O.Sink.written c.args.out.now)) (outside (g.S.Shelf.misses c.take_madt.new.shelf) (g.S.Shelf.faults c.take_madt.new.shelf) (g.S.Shelf.asked c.take_madt.new.shelf) (g.O.Sink.faults c.refuse.new.out) (g.O.Sink.written c.refuse.new.out)) c.in-Ok.ensures.unfailed,
+  second-unmade (g.S.Shelf.files c.args.shelf.now) (Madtcmp c.args.files.image.now c.args.files.elcr c.args.files.madt.now) c.args.files.image.now (AcpiTable c.args.files.madt.now) refl c.args.tables.now c.requires.gives (outside_of g.S.Shelf g.O.Sink c.args.shelf.now c.args.out.now) (outside_of g.S.Shelf g.O.Sink c.take_madt.new.shelf c.refuse.new.out) c.in-Ok.ensures.quiet,
   c.refuse.ensures,
 )
 
@@ -33,6 +33,6 @@ returns-clause-due g c =
     let ending = c.in-Err.ending in (
       ending_status ending,
       ending_text c.args.files.madt.now ending,
-      second-ends (g.S.Shelf.files c.args.shelf.now) (Madtcmp c.args.files.image.now c.args.files.elcr c.args.files.madt.now) c.args.files.image.now (AcpiTable c.args.files.madt.now) refl c.args.tables.now c.requires.gives (outside (g.S.Shelf.misses c.args.shelf.now) (g.S.Shelf.faults c.args.shelf.now) (g.S.Shelf.asked c.args.shelf.now) (g.O.Sink.faults c.args.out.now) (g.O.Sink.written c.args.out.now)) (outside (g.S.Shelf.misses c.take_madt.new.shelf) (g.S.Shelf.faults c.take_madt.new.shelf) (g.S.Shelf.asked c.take_madt.new.shelf) (g.O.Sink.faults c.refuse-in-Err.new.out) (g.O.Sink.written c.refuse-in-Err.new.out)) ending c.in-Err.ensures.ends,
+      second-ends (g.S.Shelf.files c.args.shelf.now) (Madtcmp c.args.files.image.now c.args.files.elcr c.args.files.madt.now) c.args.files.image.now (AcpiTable c.args.files.madt.now) refl c.args.tables.now c.requires.gives (outside_of g.S.Shelf g.O.Sink c.args.shelf.now c.args.out.now) (outside_of g.S.Shelf g.O.Sink c.take_madt.new.shelf c.refuse-in-Err.new.out) ending c.in-Err.ensures.ends,
       c.refuse-in-Err.ensures,
     )

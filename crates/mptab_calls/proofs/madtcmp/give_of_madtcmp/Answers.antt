@@ -2,7 +2,7 @@ use Rattle.std.proofs.Common.{◌≤◌, ◌+◌, refl, sym, subst, Option}
 use Rattle.mpt_base.specs.Outside.{Files}
 use Rattle.mptab_calls.specs.Forms.{Madtcmp, AcpiTable}
 use Rattle.mptab_calls.specs.Commands.{ImageGives}
-use Rattle.mptab_calls.specs.Walk.{outside, IsDueOf, most_of}
+use Rattle.mptab_calls.specs.Walk.{IsDueOf, most_of, outside_of}
 use Rattle.mptab_calls.specs.Ending.{ending_status, ending_text}
 use Rattle.mptab_calls.proofs.BoardLemmas.{IsDueOf-earlier}
 use Rattle.mptab_calls.proofs.SecondLemmas.{image-ends, asks-image, asks-second}
@@ -17,8 +17,8 @@ returns-in-Ok-clause-due g c =
     let due = c.give_of_madt.ensures.due in (
       due.0,
       due.1,
-      IsDueOf-earlier (g.S.Shelf.files c.args.shelf.now) (outside (g.S.Shelf.misses c.args.shelf.now) (g.S.Shelf.faults c.args.shelf.now) (g.S.Shelf.asked c.args.shelf.now) (g.O.Sink.faults c.args.out.now) (g.O.Sink.written c.args.out.now)) (outside (g.S.Shelf.misses c.take_image.new.shelf) (g.S.Shelf.faults c.take_image.new.shelf) (g.S.Shelf.asked c.take_image.new.shelf) (g.O.Sink.faults c.args.out.now) (g.O.Sink.written c.args.out.now)) (outside (g.S.Shelf.misses c.give_of_madt.new.shelf) (g.S.Shelf.faults c.give_of_madt.new.shelf) (g.S.Shelf.asked c.give_of_madt.new.shelf) (g.O.Sink.faults c.give_of_madt.new.out) (g.O.Sink.written c.give_of_madt.new.out)) (Madtcmp c.args.files.image.now c.args.files.elcr c.args.files.madt.now) due.0 due.1 facts.misses facts.unfailed
-          (subst (λ (t : Option Files). IsDueOf t (outside (g.S.Shelf.misses c.take_image.new.shelf) (g.S.Shelf.faults c.take_image.new.shelf) (g.S.Shelf.asked c.take_image.new.shelf) (g.O.Sink.faults c.args.out.now) (g.O.Sink.written c.args.out.now)) (outside (g.S.Shelf.misses c.give_of_madt.new.shelf) (g.S.Shelf.faults c.give_of_madt.new.shelf) (g.S.Shelf.asked c.give_of_madt.new.shelf) (g.O.Sink.faults c.give_of_madt.new.out) (g.O.Sink.written c.give_of_madt.new.out)) (Madtcmp c.args.files.image.now c.args.files.elcr c.args.files.madt.now) due.0 due.1) facts.files_stay due.2),
+      IsDueOf-earlier (g.S.Shelf.files c.args.shelf.now) (outside_of g.S.Shelf g.O.Sink c.args.shelf.now c.args.out.now) (outside_of g.S.Shelf g.O.Sink c.take_image.new.shelf c.args.out.now) (outside_of g.S.Shelf g.O.Sink c.give_of_madt.new.shelf c.give_of_madt.new.out) (Madtcmp c.args.files.image.now c.args.files.elcr c.args.files.madt.now) due.0 due.1 facts.quiet
+          (subst (λ (t : Option Files). IsDueOf t (outside_of g.S.Shelf g.O.Sink c.take_image.new.shelf c.args.out.now) (outside_of g.S.Shelf g.O.Sink c.give_of_madt.new.shelf c.give_of_madt.new.out) (Madtcmp c.args.files.image.now c.args.files.elcr c.args.files.madt.now) due.0 due.1) facts.files_stay due.2),
       due.3,
     )
 
@@ -33,7 +33,7 @@ returns-in-Err-clause-due g c =
     let ending = c.in-Err.ending in (
       ending_status ending,
       ending_text c.args.files.image.now ending,
-      image-ends (g.S.Shelf.files c.args.shelf.now) (Madtcmp c.args.files.image.now c.args.files.elcr c.args.files.madt.now) c.args.files.image.now (AcpiTable c.args.files.madt.now) refl (outside (g.S.Shelf.misses c.args.shelf.now) (g.S.Shelf.faults c.args.shelf.now) (g.S.Shelf.asked c.args.shelf.now) (g.O.Sink.faults c.args.out.now) (g.O.Sink.written c.args.out.now)) (outside (g.S.Shelf.misses c.take_image.new.shelf) (g.S.Shelf.faults c.take_image.new.shelf) (g.S.Shelf.asked c.take_image.new.shelf) (g.O.Sink.faults c.refuse.new.out) (g.O.Sink.written c.refuse.new.out)) ending c.in-Err.ensures.ends,
+      image-ends (g.S.Shelf.files c.args.shelf.now) (Madtcmp c.args.files.image.now c.args.files.elcr c.args.files.madt.now) c.args.files.image.now (AcpiTable c.args.files.madt.now) refl (outside_of g.S.Shelf g.O.Sink c.args.shelf.now c.args.out.now) (outside_of g.S.Shelf g.O.Sink c.take_image.new.shelf c.refuse.new.out) ending c.in-Err.ensures.ends,
       c.refuse.ensures,
     )
 

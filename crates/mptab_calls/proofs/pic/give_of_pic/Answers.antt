@@ -1,8 +1,8 @@
 use Rattle.std.proofs.Common.{◌≤◌, ◌+◌, [], ◌∷◌, refl, sym, subst, Option}
 use Rattle.mpt_base.specs.Outside.{Files}
 use Rattle.mptab_calls.specs.Forms.{Pic, Calls}
-use Rattle.mptab_calls.specs.Walk.{outside, IsDueOf, most_of}
-use Rattle.mptab_calls.specs.Ending.{shelves}
+use Rattle.mptab_calls.specs.Walk.{IsDueOf, most_of, outside_of}
+use Rattle.mptab_calls.specs.Ending.{shelves_of}
 use Rattle.mptab_calls.specs.Boards.{IsDescribed, board_ending_status, board_ending_text}
 use Rattle.mptab_calls.proofs.BoardLemmas.{IsDueOf-earlier, board-ends, asks-end, asks-third}
 use Rattle.mptab_calls.proofs.pic.give_of_pic.Goals as goal
@@ -16,8 +16,8 @@ returns-in-Ok-clause-due g c =
     let due = c.give_of_calls.ensures.due in (
       due.0,
       due.1,
-      IsDueOf-earlier (g.S.Shelf.files c.args.shelf.now) (outside (g.S.Shelf.misses c.args.shelf.now) (g.S.Shelf.faults c.args.shelf.now) (g.S.Shelf.asked c.args.shelf.now) (g.O.Sink.faults c.args.out.now) (g.O.Sink.written c.args.out.now)) (outside (g.S.Shelf.misses c.take_described.new.shelf) (g.S.Shelf.faults c.take_described.new.shelf) (g.S.Shelf.asked c.take_described.new.shelf) (g.O.Sink.faults c.args.out.now) (g.O.Sink.written c.args.out.now)) (outside (g.S.Shelf.misses c.give_of_calls.new.shelf) (g.S.Shelf.faults c.give_of_calls.new.shelf) (g.S.Shelf.asked c.give_of_calls.new.shelf) (g.O.Sink.faults c.give_of_calls.new.out) (g.O.Sink.written c.give_of_calls.new.out)) (Pic c.args.files.board.image.now c.args.files.board.script.now c.args.files.calls.now) due.0 due.1 facts.misses facts.unfailed
-          (subst (λ (t : Option Files). IsDueOf t (outside (g.S.Shelf.misses c.take_described.new.shelf) (g.S.Shelf.faults c.take_described.new.shelf) (g.S.Shelf.asked c.take_described.new.shelf) (g.O.Sink.faults c.args.out.now) (g.O.Sink.written c.args.out.now)) (outside (g.S.Shelf.misses c.give_of_calls.new.shelf) (g.S.Shelf.faults c.give_of_calls.new.shelf) (g.S.Shelf.asked c.give_of_calls.new.shelf) (g.O.Sink.faults c.give_of_calls.new.out) (g.O.Sink.written c.give_of_calls.new.out)) (Pic c.args.files.board.image.now c.args.files.board.script.now c.args.files.calls.now) due.0 due.1) facts.files_stay due.2),
+      IsDueOf-earlier (g.S.Shelf.files c.args.shelf.now) (outside_of g.S.Shelf g.O.Sink c.args.shelf.now c.args.out.now) (outside_of g.S.Shelf g.O.Sink c.take_described.new.shelf c.args.out.now) (outside_of g.S.Shelf g.O.Sink c.give_of_calls.new.shelf c.give_of_calls.new.out) (Pic c.args.files.board.image.now c.args.files.board.script.now c.args.files.calls.now) due.0 due.1 facts.quiet
+          (subst (λ (t : Option Files). IsDueOf t (outside_of g.S.Shelf g.O.Sink c.take_described.new.shelf c.args.out.now) (outside_of g.S.Shelf g.O.Sink c.give_of_calls.new.shelf c.give_of_calls.new.out) (Pic c.args.files.board.image.now c.args.files.board.script.now c.args.files.calls.now) due.0 due.1) facts.files_stay due.2),
       due.3,
     )
 
@@ -32,9 +32,9 @@ returns-in-Err-clause-due g c =
     let ending = c.in-Err.ending in (
       board_ending_status ending,
       board_ending_text c.args.files.board.image.now c.args.files.board.script.now ending,
-      board-ends (g.S.Shelf.files c.args.shelf.now) (Pic c.args.files.board.image.now c.args.files.board.script.now c.args.files.calls.now) c.args.files.board.image.now c.args.files.board.script.now (Calls c.args.files.calls.now ∷ []) refl (outside (g.S.Shelf.misses c.args.shelf.now) (g.S.Shelf.faults c.args.shelf.now) (g.S.Shelf.asked c.args.shelf.now) (g.O.Sink.faults c.args.out.now) (g.O.Sink.written c.args.out.now)) (outside (g.S.Shelf.misses c.take_described.new.shelf) (g.S.Shelf.faults c.take_described.new.shelf) (g.S.Shelf.asked c.take_described.new.shelf) (g.O.Sink.faults c.refuse_board.new.out) (g.O.Sink.written c.refuse_board.new.out)) ending c.in-Err.ensures.ends,
+      board-ends (g.S.Shelf.files c.args.shelf.now) (Pic c.args.files.board.image.now c.args.files.board.script.now c.args.files.calls.now) c.args.files.board.image.now c.args.files.board.script.now (Calls c.args.files.calls.now ∷ []) refl (outside_of g.S.Shelf g.O.Sink c.args.shelf.now c.args.out.now) (outside_of g.S.Shelf g.O.Sink c.take_described.new.shelf c.refuse_board.new.out) ending c.in-Err.ensures.ends,
       c.refuse_board.ensures,
     )
 
 pub returns-in-Err-clause-asks : goal.returns-in-Err-clause-asks
-returns-in-Err-clause-asks g c = asks-end (g.S.Shelf.files c.args.shelf.now) (Pic c.args.files.board.image.now c.args.files.board.script.now c.args.files.calls.now) c.args.files.board.image.now c.args.files.board.script.now (Calls c.args.files.calls.now ∷ []) refl (g.S.Shelf.asked c.args.shelf.now) (g.S.Shelf.asked c.take_described.new.shelf) (shelves (g.S.Shelf.misses c.args.shelf.now) (g.S.Shelf.misses c.take_described.new.shelf) (g.S.Shelf.faults c.args.shelf.now) (g.S.Shelf.faults c.take_described.new.shelf)) c.in-Err.ending c.in-Err.ensures.ends c.in-Err.ensures.asks_at_end
+returns-in-Err-clause-asks g c = asks-end (g.S.Shelf.files c.args.shelf.now) (Pic c.args.files.board.image.now c.args.files.board.script.now c.args.files.calls.now) c.args.files.board.image.now c.args.files.board.script.now (Calls c.args.files.calls.now ∷ []) refl (g.S.Shelf.asked c.args.shelf.now) (g.S.Shelf.asked c.take_described.new.shelf) (shelves_of g.S.Shelf c.args.shelf.now c.take_described.new.shelf) c.in-Err.ending c.in-Err.ensures.ends c.in-Err.ensures.asks_at_end
