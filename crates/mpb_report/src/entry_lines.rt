@@ -32,7 +32,7 @@ pub fn push_entry_line(out: &mut Vec<u8>, number: u64, entry: &Entry) -> Result<
     push_op(out, entry.op)?;
     push_text(out, b" :")?;
     push_outcomes(out, entry.outcomes.as_slice())?;
-    push_text(out, b"\n")?;
+    out.push(b'\n')?;
     Ok(())
 }
 
@@ -192,7 +192,7 @@ fn push_further_outcome(out: &mut Vec<u8>, outcome: Outcome) -> Result<(), Alloc
     if has_target(outcome.what) {
         push_target(out, outcome.at as u64)?;
     } else {
-        push_text(out, b" ")?;
+        out.push(b' ')?;
     }
     push_what(out, outcome.what)
 }
