@@ -11,7 +11,7 @@ use Rattle.mpb_spec.specs.declared.pulse.Hit.{Hit}
 use Rattle.mpb_robin.specs.Account.{AccountsForPulses}
 use Rattle.mpb_robin.specs.RoundRobin.{IsRoundRobinOf}
 use Rattle.mpb_report.specs.Report.{report_of}
-use Rattle.mpb_boot.specs.Boot.{IsTraceOf, IsBootOf}
+use Rattle.mpb_boot.specs.Boot.{IsTraceOf, IsWholeRunOf, IsBootOf}
 
 module _ (c p : Plan) (journal : List Entry) (logs : List (List (Pulse × Hit))) (plan : p ≡ c) where
   said : (text : List ℕ) → text ≡ report_of p journal logs → text ≡ report_of c journal logs
@@ -21,7 +21,11 @@ module _ (c p : Plan) (journal : List Entry) (logs : List (List (Pulse × Hit)))
   traced (Ok t) e robin = (journal, logs, robin, said t.items e)
   traced (Err m) e robin = tt
 
-  pub booted : (r : Result (Vec ℕ Global) NoMemory) → IfOk r (λ t. t.items ≡ report_of p journal logs) → IsComplete c journal → AccountsForPulses c journal logs → ((page : ℕ) → IsStartableAt page c → IsStartedOnce page c journal)
-      → IfOk r (λ t. (page : ℕ) → IsStartableAt page c → IsBootOf page c t.items)
-  booted (Ok t) e complete accounts started = λ page startable. (journal, logs, record { complete = complete; started = started page startable; accounts = accounts }, said t.items e)
-  booted (Err m) e complete accounts started = tt
+  module _ (complete : IsComplete c journal) (accounts : AccountsForPulses c journal logs) (started : (page : ℕ) → IsStartableAt page c → IsStartedOnce page c journal) where
+    pub whole : (r : Result (Vec ℕ Global) NoMemory) → IfOk r (λ t. t.items ≡ report_of p journal logs) → IfOk r (λ t. IsWholeRunOf c t.items)
+    whole (Ok t) e = (journal, logs, record { complete = complete; accounts = accounts; started = started }, said t.items e)
+    whole (Err m) e = tt
+
+    pub booted : (r : Result (Vec ℕ Global) NoMemory) → IfOk r (λ t. t.items ≡ report_of p journal logs) → IfOk r (λ t. (page : ℕ) → IsStartableAt page c → IsBootOf page c t.items)
+    booted (Ok t) e = λ page startable. (journal, logs, record { complete = complete; started = started page startable; accounts = accounts }, said t.items e)
+    booted (Err m) e = tt

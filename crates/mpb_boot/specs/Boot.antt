@@ -2,6 +2,7 @@
 --     board_of tables s              the board's config
 --     fault_of tables s              why there is none
 --     IsTraceOf c text               the report of the round robin
+--     IsWholeRunOf c text            the report of one run to the board's end
 --     IsBootOf page c text           the report of one complete boot
 use Rattle.std.specs.Prelude.{◌≡◌, ℕ, List, Option}
 use Rattle.mpt_spec.specs.declared.tables.Tables.{Tables}
@@ -10,6 +11,7 @@ use Rattle.mpt_route.specs.Routes.{routes_of}
 use Rattle.mpb_spec.specs.declared.entry.Entry.{Entry}
 use Rattle.mpb_spec.specs.declared.fault.BoardError.{BoardError}
 use Rattle.mpb_spec.specs.Plan.{Plan}
+use Rattle.mpb_spec.specs.Configs.{IsStartableAt}
 use Rattle.mpb_spec.specs.Journal.{IsComplete}
 use Rattle.mpb_script.specs.declared.script.Script.{Script}
 use Rattle.mpb_setup.specs.Board.{board_config_of}
@@ -32,6 +34,17 @@ fault_of tables s = board_fault_of (platform_of tables) s
 -- the text reports the round robin of the board
 abbrev pub IsTraceOf : Plan → List ℕ → Type 0
 IsTraceOf c text = (journal : List Entry) × (logs : List (List (Pulse × Hit))) × IsRoundRobinOf c journal logs × (text ≡ report_of c journal logs)
+
+-- journal and logs are those of a run of the board to its end, whatever its config: a complete legal history, in which every
+-- pulse is accounted for; where the boot program starts each other processor at a page, each is started exactly once there
+pub record IsWholeRun (c : Plan) (journal : List Entry) (logs : List (List (Pulse × Hit))) : Type 0 where
+  pub complete : IsComplete c journal
+  pub accounts : AccountsForPulses c journal logs
+  pub started : (page : ℕ) → IsStartableAt page c → IsStartedOnce page c journal
+
+-- the text reports one run of the board to its end
+abbrev pub IsWholeRunOf : Plan → List ℕ → Type 0
+IsWholeRunOf c text = (journal : List Entry) × (logs : List (List (Pulse × Hit))) × IsWholeRun c journal logs × (text ≡ report_of c journal logs)
 
 -- journal and logs are those of a boot: a complete legal history of the board, in which each other processor is started exactly
 -- once at the page, and every pulse is accounted for

@@ -8,5 +8,5 @@ mod setup;
 
 pub use lines::{board_fault_line, script_fault_line, verdict_line};
 pub use mpb_crew::{Gate, NoGate};
-pub use reports::{boot, boot_in_turns, trace};
+pub use reports::{boot, trace};
 pub use setup::board;

@@ -8,7 +8,7 @@ ghost use Rattle.mpb_start_laws.specs.Starts.{IsStartedOnce};
 ghost use Rattle.mpb_spec.specs.Pulses.{logs_of};
 ghost use Rattle.mpb_robin.specs.Account.{AccountsForPulses};
 ghost use Rattle.mpb_robin.specs.RoundRobin.{IsRoundRobinOf};
-ghost use Rattle.mpb_boot.specs.Boot.{IsTraceOf, IsBootOf};
+ghost use Rattle.mpb_boot.specs.Boot.{IsTraceOf, IsWholeRunOf, IsBootOf};
 
 use mpb_board::Board;
 use mpb_crew::{Gate, threads};
@@ -35,21 +35,13 @@ fn ran(alloc: Global, config: Config) -> Result<Ran, NoMemory>
     }
 }
 
-/// The report of the round robin of the config's board.
+/// The report of the round robin of the config's board, whose agents take turns on one thread. It is that
+/// of a run to the board's end, and where the boot program starts the other processors at a page, that of a
+/// boot.
 pub fn trace(alloc: Global, config: Config) -> Result<Vec<u8>, NoMemory>
     requires small { plan_size config < 2 ^ 32 }
     ensures trace { IfOk result (λ t. IsTraceOf config t.items) }
-{
-    match ran(alloc, config) {
-        Ok(ran) => report_text(alloc, &ran.board, &ran.account),
-        Err(error) => Err(error),
-    }
-}
-
-/// The report of a boot of the config's board, whose agents take turns on one thread. The boot program
-/// starts the other processors at the page.
-pub fn boot_in_turns(alloc: Global, config: Config) -> Result<Vec<u8>, NoMemory>
-    requires small { plan_size config < 2 ^ 32 }
+    ensures run { IfOk result (λ t. IsWholeRunOf config t.items) }
     ensures boot { IfOk result (λ t. (page : ℕ) → IsStartableAt page config → IsBootOf page config t.items) }
 {
     match ran(alloc, config) {
@@ -77,8 +69,9 @@ fn ran_by_threads<R: Threads + Wait + Sync, G: Gate + Sync>(
     }
 }
 
-/// The report of a boot of the config's board, each of whose agents has a thread of its own and passes the
-/// gate before each of its turns. The boot program starts the other processors at the page. It may wait.
+/// The report of a run of the config's board to its end, each of whose agents has a thread of its own and
+/// passes the gate before each of its turns. Where the boot program starts the other processors at a page,
+/// it is that of a boot. It may wait.
 pub fn boot<R: Threads + Wait + Sync, G: Gate + Sync>(
     rt: &R,
     alloc: Global,
@@ -86,6 +79,7 @@ pub fn boot<R: Threads + Wait + Sync, G: Gate + Sync>(
     gate: &G,
 ) -> Result<Vec<u8>, NoMemory>
     requires small { plan_size config < 2 ^ 32 }
+    ensures run { IfOk result (λ t. IsWholeRunOf config t.items) }
     ensures boot { IfOk result (λ t. (page : ℕ) → IsStartableAt page config → IsBootOf page config t.items) }
 {
     match ran_by_threads(rt, alloc, config, gate) {

@@ -51,6 +51,20 @@ set-done k [] rest q lt = absurd (omega arith)
 set-done zero (x ∷ ps) rest q lt = refl
 set-done (suc k) (x ∷ ps) rest q lt = ap (λ (l : List Pin). x ∷ l) (set-done k ps rest q (omega arith))
 
+-- pin k of these, at any default
+pub slice_get-not_yet : (k : ℕ) (ps rest now : List Pin) → k < length ps → now ≡ take (suc k) ps ++ rest → slice_get now k ≡ Some (get_or ps k reset_pin)
+slice_get-not_yet k ps rest now lt done = ap (λ (l : List Pin). slice_get l k) done ∙ slice_get-done k ps rest lt ∙ slice_get-get_or ps k reset_pin lt
+
+-- a pin that is put back as it was
+pub set-same : (ps : List Pin) (n : ℕ) (p : Pin) → slice_get ps n ≡ Some p → ps ≡ set ps n p
+set-same [] n p at = refl
+set-same (x ∷ ps) zero p at = let e : x ≡ p = cc in ap (λ (y : Pin). y ∷ ps) e
+set-same (x ∷ ps) (suc n) p at = ap (λ (l : List Pin). x ∷ l) (set-same ps n p at)
+
+-- what was read is the one pin there
+pub same_pin : (ps : List Pin) (n : ℕ) (p q : Pin) → slice_get ps n ≡ Some p → slice_get ps n ≡ Some q → q ≡ p
+same_pin ps n p q at bt = cc
+
 -- the mask's next bits
 half_of : (m k : ℕ) → m / 2 ^ k / 2 ≡ m / 2 ^ suc k
 half_of m k = div-div-eq-div-mul m (2 ^ k) 2 ∙ ap (λ (d : ℕ). m / d) (sym (pow-suc 2 k))
