@@ -4,13 +4,15 @@ use Rattle.std.specs.Prelude.{unwrap_or}
 use Rattle.std.specs.List.{AllByRecursion, find, flat_map}
 use Rattle.mpt_spec.specs.declared.entry.Processor.{Processor}
 use Rattle.mpt_spec.specs.declared.entry.IntEntry.{IntEntry}
+use Rattle.mpt_spec.specs.Interrupts.{trigger_of}
 use Rattle.mpt_spec.specs.Flags.{is_boot_processor}
 use Rattle.mpt_route.specs.declared.platform.Platform.{Platform}
 use Rattle.mpt_route.specs.declared.route.Answer.{Answer}
 use Rattle.mpt_route.specs.declared.route.Answer.TheVariants as answer
-use Rattle.mpt_route.specs.Routes.{routes_of, high_word_of, bit}
+use Rattle.mpt_route.specs.Routes.{routes_of, high_word_of, is_int, bit}
+use Rattle.mpt_route.specs.Sense.{is_level}
 use Rattle.mpt_route.proofs.ReasonLemmas.{are_routes}
-use Rattle.mpt_route_laws.specs.Rows.{IsRowOf, IsOnPin}
+use Rattle.mpt_route_laws.specs.Rows.{IsRowOf, IsOnPin, is_bus_level_low}
 use Rattle.mpt_route_laws.proofs.RowLemmas.{is_row_of, entry_at, on_pin}
 use Rattle.mpb_spec.specs.declared.agent.Op.{Op}
 use Rattle.mpb_spec.specs.declared.agent.Op.TheVariants as op
@@ -92,7 +94,7 @@ row_value p elcr i (answer.Routed r) low at =
     let row : IsRowOf p elcr i e.0 r = is_row_of p elcr i e.0 r e.1 at in
     let on : IsOnPin r = on_pin p elcr i e.0 r e.1 at in
     let high : r.high < 2 ^ 32 = subst (λ (n : ℕ). n < 2 ^ 32) (sym row.high) (high_small p.processors low) in
-    let word : r.low < 2 ^ 32 = low_small r.low _ row.trigger_bit in
+    let word : r.low < 2 ^ 32 = low_small r.low (is_level (trigger_of e.0.flags) (is_bus_level_low p elcr e.0) && is_int row.kind) row.trigger_bit in
     let place : r.io < 256 = omega (arith, on.0) in
     let pin : r.pin < 24 = on.1 in
     ((place, omega arith), ((place, high), ((place, omega arith), ((place, word), tt))))
@@ -123,11 +125,8 @@ module _ (p : Platform) (s : Script) (sound : board_fault_of p s ≡ None) (valu
   program_value : (id : ℕ) → AllByRecursion IsOpValue (cpu_plan_of p (boot_program_of p (routes_of p s.elcr) s.page) s id).program
   program_value id = go (id == boot_id_of p)
     where
-      ops : List Op
-      ops = boot_program_of p (routes_of p s.elcr) s.page
-
-      go : (b : Bool) → AllByRecursion IsOpValue (cond b ops [] ++ cpu_words s.cpus id)
-      go true = all-append IsOpValue ops (cpu_words s.cpus id) boot_value (words_value s.cpus id values.cpu_words)
+      go : (b : Bool) → AllByRecursion IsOpValue (cond b (boot_program_of p (routes_of p s.elcr) s.page) [] ++ cpu_words s.cpus id)
+      go true = all-append IsOpValue (boot_program_of p (routes_of p s.elcr) s.page) (cpu_words s.cpus id) boot_value (words_value s.cpus id values.cpu_words)
       go false = words_value s.cpus id values.cpu_words
 
   of_ids : (ids : List ℕ) → AllByRecursion (λ q. AllByRecursion IsOpValue q.program) (map (cpu_plan_of p (boot_program_of p (routes_of p s.elcr) s.page) s) ids)

@@ -1,7 +1,7 @@
 //! Words that are no form, files that aren't there, and calls of shelf and sink that fail one by one.
 
 use crate::harness::{
-    Answer, BOTH, IMAGE, NOTHING, SCRIPT, answer_of, same, script_of, shelf_of, words_of,
+    Answer, BOTH, IMAGE, NOTHING, REPORT, SCRIPT, answer_of, same, script_of, shelf_of, words_of,
 };
 use crate::pulses::ONE;
 use mpt_base::{MemShelf, MemSink};
@@ -61,6 +61,26 @@ const WORDS: &[Case] = &[
         words: &["boot ", IMAGE, SCRIPT],
         status: 2,
         text: USAGE,
+    },
+    Case {
+        words: &["replay", IMAGE, SCRIPT],
+        status: 2,
+        text: USAGE,
+    },
+    Case {
+        words: &["replay", IMAGE, SCRIPT, SCRIPT, SCRIPT],
+        status: 2,
+        text: USAGE,
+    },
+    Case {
+        words: &["replay", IMAGE, SCRIPT, SCRIPT],
+        status: 8,
+        text: "mptab: report line 1 Form\n",
+    },
+    Case {
+        words: &["replay", IMAGE, IMAGE, "x"],
+        status: 8,
+        text: "mptab: script not toml\n",
     },
     Case {
         words: &["trace", IMAGE, "x"],
@@ -221,6 +241,48 @@ fn calls_of_the_shelf(rt: HostRuntime) -> Result<(), Fail> {
         let wrong = first_wrong_call(&rt, rt.alloc(), command)?;
         same(&rt, command, wrong, None);
     }
+    Ok(())
+}
+
+/// The answer of `replay` to the report of one processor without words, where a call of the shelf fails and a
+/// put of the sink; 0 is none.
+fn replayed<R: Threads + Wait + Sync>(
+    rt: &R,
+    alloc: Global,
+    call: u64,
+    put: u64,
+) -> Result<Answer, Fail> {
+    let mut shelf = shelf_of(alloc, ONE, b"page = 0x9F\n")?;
+    shelf.add(REPORT, NOTHING.as_bytes())?;
+    shelf.fail(call)?;
+    let words = ["replay", IMAGE, SCRIPT, REPORT];
+    answer_of(rt, alloc, &words, &mut shelf, put)
+}
+
+const REPORT_UNREAD: &str = "mptab: cannot read report.txt\n";
+
+#[test]
+fn calls_of_the_shelf_by_a_replay(rt: HostRuntime) -> Result<(), Fail> {
+    for (call, line) in CALLS {
+        let answer = replayed(&rt, rt.alloc(), *call, 0)?;
+        assert!(rt; answer.is(4, line), "call {call}");
+    }
+    // The report's size and its bytes.
+    for call in [9, 10] {
+        let answer = replayed(&rt, rt.alloc(), call, 0)?;
+        assert!(rt; answer.is(4, REPORT_UNREAD), "call {call}");
+    }
+    let answer = replayed(&rt, rt.alloc(), 11, 0)?;
+    assert!(rt; answer.is(0, "replay legal\n"), "there are ten calls");
+    Ok(())
+}
+
+#[test]
+fn puts_of_the_sink_by_a_replay(rt: HostRuntime) -> Result<(), Fail> {
+    let answer = replayed(&rt, rt.alloc(), 0, 1)?;
+    assert!(rt; answer.is(5, ""), "the put fails");
+    let answer = replayed(&rt, rt.alloc(), 0, 2)?;
+    assert!(rt; answer.is(0, "replay legal\n"), "there is one put");
     Ok(())
 }
 

@@ -26,7 +26,7 @@ use Rattle.mpb_replay_laws.specs.Verdict.{IsVerdict}
 use Rattle.mpb_replay_laws.proofs.OneVerdict.{same_verdict}
 use Rattle.mpb_boot.specs.Boot.{board_of, fault_of, IsTraceOf, IsBootOf}
 use Rattle.mpb_boot.specs.Lines.{verdict_line}
-use Rattle.mptab_calls.specs.Forms.{Form, Trace, Boot, Replay, Named, Image, Script, Report, IsForm, files_of, name_of, limit_of, IsRead}
+use Rattle.mptab_calls.specs.Forms.{Form, Trace, Boot, Replay, Named, Image, Script, Report, IsForm, IsAny, files_of, name_of, limit_of, IsRead}
 use Rattle.mptab_calls.specs.Commands.{ImageGives, ScriptGives, ReportGives, WithBoard, IsUnderstood, IsTraced, IsBooted, IsJudged, IsText, verdict_status}
 use Rattle.mptab_calls.specs.Walk.{Outside, IsAnswer, IsAnswerOf, EndsAt, Reaches, IsDue, IsDueOf, IsFailure, Answers}
 use Rattle.mptab_calls.proofs.FormReading.{same_form}
@@ -46,7 +46,7 @@ whole_due listed told before after words s t zero_ (inr (form, l, is, inr (inr a
 pub zero_answered : (listed : Form → Type 0) (told : Option Files) (before after : Outside) (words : List (List ℕ)) → Answers listed told before after words 0 → (text : List ℕ) × IsAnswer listed told words 0 text × Appends before.written after.written text
 zero_answered listed told before after words (s, t, due, inl d) =
     let answer : IsAnswer listed told words s t = whole_due listed told before after words s t (sym d.0) due in
-    (t, (subst (λ (n : ℕ). IsAnswer listed told words n t) (sym d.0) answer, d.2))
+    (t, subst (λ (n : ℕ). IsAnswer listed told words n t) (sym d.0) answer, d.2)
 zero_answered listed told before after words (s, t, due, inr d) = absurd (omega (arith, d.0))
 
 -- ---- a report of the board
@@ -87,7 +87,7 @@ answer_of listed told form words t is (inr (other, l, is', a)) = by_end (subst (
     by_end (inr all) = all.1
 
 -- the board of image and script has it as a legal report
-LegalBoard : Option Files → List ℕ → List ℕ → List ℕ → Type 0
+abbrev LegalBoard : Option Files → List ℕ → List ℕ → List ℕ → Type 0
 LegalBoard told image script text = WithBoard told image script (λ tables s. IsLegalText (board_of tables s) text)
 
 with_legal : (files : Files) (image script text : List ℕ) (P : Tables → AScript → Type 0) → AreBytesTold files → ((tables : Tables) (s : AScript) → IsConfig (board_of tables s) → plan_size (board_of tables s) < 2 ^ 32 → P tables s → IsRunText (board_of tables s) text)
@@ -138,19 +138,19 @@ judged after image script report text s t holds within board (inr a) = board_one
         let v_legal : v ≡ Legal = same_verdict (board_of tables x) legal.0 v Legal (subst (λ (q : AReport). IsVerdict (board_of tables x) q v) same is) legal.2 in
         (status ∙ ap verdict_status v_legal, line ∙ ap verdict_line v_legal)
 
-module _ (files after : Files) (image script report text : List ℕ) (bytes : AreBytesTold files) (is : IsReported (λ form. ⊤) files image script text) (kept : IsKept files after image script report text) where
+abbrev replay_words : List ℕ → List ℕ → List ℕ → List (List ℕ)
+replay_words image script report = codes "replay" ∷ image ∷ script ∷ report ∷ []
+
+module _ (files after : Files) (image script report text : List ℕ) (bytes : AreBytesTold files) (is : IsReported IsAny files image script text) (kept : IsKept files after image script report text) where
   board : LegalBoard (Some after) image script text
-  board = board_stays files after image script text kept.image_stays kept.script_stays (reported (λ form. ⊤) files image script text bytes is)
+  board = board_stays files after image script text kept.image_stays kept.script_stays (reported IsAny files image script text bytes is)
 
-  words : List (List ℕ)
-  words = codes "replay" ∷ image ∷ script ∷ report ∷ []
-
-  of_form : (listed : Form → Type 0) (told : Option Files) (P : Form → Type 0) → ((form : Form) × listed form × IsForm form words × P form) → P (Replay image script report)
-  of_form listed told P (form, l, f, p) = subst P (same_form form (Replay image script report) words f refl) p
+  of_form : (listed : Form → Type 0) (P : Form → Type 0) → ((form : Form) × listed form × IsForm form (replay_words image script report) × P form) → P (Replay image script report)
+  of_form listed P (form, l, f, p) = subst P (same_form form (Replay image script report) (replay_words image script report) f refl) p
 
   pub replayed : (listed : Form → Type 0) (s : ℕ) (t : List ℕ) → listed (Replay image script report) → IsAnswer listed (Some after) (codes "replay" ∷ image ∷ script ∷ report ∷ []) s t → (s ≡ 0) × (t ≡ verdict_line Legal)
   replayed listed s t l (inl a) = absurd (a.0 (Replay image script report) l refl)
-  replayed listed s t l (inr a) = judged after image script report text s t kept.holds kept.within board (of_form listed (Some after) (λ form. IsAnswerOf (Some after) form s t) a)
+  replayed listed s t l (inr a) = judged after image script report text s t kept.holds kept.within board (of_form listed (λ form. IsAnswerOf (Some after) form s t) a)
 
   due : (b a : Outside) (s : ℕ) (t : List ℕ) → IsDueOf (Some after) b a (Replay image script report) s t → (s ≡ 0) ⊎ ((s ≡ 4) ⊎ (s ≡ 9))
   due b a s t (inl h) = inl (judged after image script report text s t kept.holds kept.within board h.0).0
@@ -160,7 +160,7 @@ module _ (files after : Files) (image script report text : List ℕ) (bytes : Ar
   pub replay_status : (listed : Form → Type 0) (b a : Outside) (result : ℕ) → listed (Replay image script report) → Answers listed (Some after) b a (codes "replay" ∷ image ∷ script ∷ report ∷ []) result → (result ≡ 0) ⊎ ((result ≡ 4) ⊎ ((result ≡ 5) ⊎ (result ≡ 9)))
   replay_status listed b a result l (s, t, d, inr x) = inr (inr (inl x.0))
   replay_status listed b a result l (s, t, inl d, inl x) = absurd (d.0.0 (Replay image script report) l refl)
-  replay_status listed b a result l (s, t, inr d, inl x) = by_due (due b a s t (of_form listed (Some after) (λ form. IsDueOf (Some after) b a form s t) d))
+  replay_status listed b a result l (s, t, inr d, inl x) = by_due (due b a s t (of_form listed (λ form. IsDueOf (Some after) b a form s t) d))
     where
       by_due : (s ≡ 0) ⊎ ((s ≡ 4) ⊎ (s ≡ 9)) → (result ≡ 0) ⊎ ((result ≡ 4) ⊎ ((result ≡ 5) ⊎ (result ≡ 9)))
       by_due (inl e) = inl (x.0 ∙ e)
