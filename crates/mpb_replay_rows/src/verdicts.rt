@@ -20,6 +20,10 @@ const ANOTHER_PIN: &[(u8, Hit)] = &[(1, Hit::New), (2, Hit::Merged), (1, Hit::Me
 
 const ONE_TOO_FEW: &[(u8, Hit)] = &[(1, Hit::New), (1, Hit::Merged)];
 
+const TOO_FEW_NEW: &[(u8, Hit)] = &[(1, Hit::Merged), (1, Hit::Merged)];
+
+const TWO_OTHER_PINS: &[(u8, Hit)] = &[(1, Hit::New), (2, Hit::Merged), (2, Hit::Merged)];
+
 const ONE_TOO_MANY: &[(u8, Hit)] = &[
     (1, Hit::New),
     (1, Hit::Merged),
@@ -28,6 +32,11 @@ const ONE_TOO_MANY: &[(u8, Hit)] = &[
 ];
 
 const STILL: &[u32] = &[0];
+
+const BAD_WRITE: Verdict = Verdict::Bad {
+    entry: 1,
+    why: BadWhy::Outcome,
+};
 
 const BOOT: Agent = Agent::Cpu(0);
 
@@ -274,6 +283,18 @@ const TOGETHER: &[Wrong] = &[
         why: BadWhy::NoAgent,
     },
     Wrong {
+        name: "no agent, with another op and another outcome",
+        entry: 0,
+        line: (Agent::Cpu(5), Op::Poll, What::Due),
+        why: BadWhy::NoAgent,
+    },
+    Wrong {
+        name: "a wait with another op and another outcome",
+        entry: 0,
+        line: (IO, Op::Send(2), What::Due),
+        why: BadWhy::Waits,
+    },
+    Wrong {
         name: "a wait with another outcome",
         entry: 11,
         line: (BOOT, Op::Take, What::Taken(0x21)),
@@ -332,6 +353,13 @@ const STEPS: &[Row] = &[
         want: Verdict::Log { device: 1 },
     },
     Row {
+        name: "two pulses on another pin",
+        entries: 15,
+        hits: TWO_OTHER_PINS,
+        remotes: STILL,
+        want: Verdict::Log { device: 1 },
+    },
+    Row {
         name: "a log too few",
         entries: 15,
         hits: ONE_TOO_FEW,
@@ -364,6 +392,13 @@ const STEPS: &[Row] = &[
         entries: 15,
         hits: HITS,
         remotes: &[2],
+        want: Verdict::State { line: 2 },
+    },
+    Row {
+        name: "another remote IRR and a line too many",
+        entries: 15,
+        hits: HITS,
+        remotes: &[2, 0],
         want: Verdict::State { line: 2 },
     },
     Row {
@@ -404,6 +439,13 @@ const PAIRS: &[Row] = &[
         hits: HITS,
         remotes: &[2],
         want: Verdict::Unfinished { agent: BOOT },
+    },
+    Row {
+        name: "a wrong log with wrong hits",
+        entries: 15,
+        hits: TOO_FEW_NEW,
+        remotes: STILL,
+        want: Verdict::Log { device: 2 },
     },
     Row {
         name: "a wrong log with a wrong line",
@@ -516,6 +558,49 @@ fn verdicts_together(rt: HostRuntime) {
     are_judged(&rt, rt.alloc(), PAIRS);
     is_bad(&rt, rt.alloc(), &OUTCOMES[0], TWICE_NEW, &[2]);
     is_bad(&rt, rt.alloc(), &OUTCOMES[0], ONE_TOO_FEW, STILL);
+}
+
+#[test]
+fn a_bad_entry_before_others(rt: HostRuntime) {
+    let mut lines = LINES;
+    lines[1] = OUTCOMES[0].line;
+    lines[12] = OUTCOMES[2].line;
+    let row = Row {
+        name: "two bad entries",
+        entries: 15,
+        hits: HITS,
+        remotes: STILL,
+        want: BAD_WRITE,
+    };
+    judged_run(&rt, rt.alloc(), &lines, &row);
+    let row = Row {
+        name: "a bad entry, unfinished",
+        entries: 2,
+        hits: HITS,
+        remotes: STILL,
+        want: BAD_WRITE,
+    };
+    judged_run(&rt, rt.alloc(), &lines[..2], &row);
+}
+
+#[test]
+fn devices_that_have_not_ended(rt: HostRuntime) {
+    // Each pulse has a collection of its own; the second and the third find the pin due.
+    let joined = (IO, Op::Collect(2), What::Pins(0, 2));
+    let mut lines = LINES;
+    lines[8] = joined;
+    lines[9] = joined;
+    lines[10] = LINES[11];
+    lines[11] = LINES[12];
+    lines[12] = LINES[14];
+    let row = Row {
+        name: "no End, behind all collections",
+        entries: 13,
+        hits: HITS,
+        remotes: STILL,
+        want: Verdict::Unfinished { agent: DEVICE },
+    };
+    judged_run(&rt, rt.alloc(), &lines[..13], &row);
 }
 
 // asserts that this entry of two processors' run, the last of these, has to wait

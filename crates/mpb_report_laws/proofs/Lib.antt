@@ -3,3 +3,4 @@ pub mod RightOps
 pub mod Fitting
 pub mod Outcomes
 pub mod Reported
+pub mod BoardOps

@@ -1,6 +1,8 @@
 //! Laws of the definitions of reports. Each is the contract of a function that does nothing.
 
-ghost use Rattle.std.specs.Prelude.{◌≡◌, ◌<◌, ◌^◌, ◌⊎◌, ℕ, List, length, map};
+ghost use Rattle.std.specs.Prelude.{◌≡◌, ◌<◌, ◌^◌, ◌⊎◌, ℕ, List, length, map, None};
+ghost use Rattle.mpt_route.specs.declared.platform.Platform.{Platform as APlatform};
+ghost use Rattle.mpt_route.specs.Routes.{routes_of};
 ghost use Rattle.mpb_spec.specs.declared.entry.Entry.{Entry as EntryOf};
 ghost use Rattle.mpb_spec.specs.Configs.{IsConfig};
 ghost use Rattle.mpb_spec.specs.Journal.{IsLegal, IsComplete};
@@ -9,6 +11,11 @@ ghost use Rattle.mpb_spec.specs.declared.pulse.Pulse.{Pulse as PulseOf};
 ghost use Rattle.mpb_spec.specs.declared.pulse.Hit.{Hit as HitOf};
 ghost use Rattle.mpb_spec.specs.Pulses.{pulses_of};
 ghost use Rattle.mpb_spec.specs.Pulses.{pulses_in};
+ghost use Rattle.mpb_spec.specs.Numbers.{AreBytes};
+ghost use Rattle.mpb_script.specs.declared.script.Script.{Script as AScript};
+ghost use Rattle.mpb_script.specs.Values.{HasScriptValues};
+ghost use Rattle.mpb_setup.specs.Board.{enabled_ids, board_config_of};
+ghost use Rattle.mpb_setup.specs.Faults.{board_fault_of};
 ghost use Rattle.mpb_robin.specs.Account.{AccountsForPulses};
 ghost use Rattle.mpb_robin.specs.RoundRobin.{IsRoundRobinOf};
 ghost use Rattle.mpb_report.specs.Report.{report_of};
@@ -24,6 +31,13 @@ ghost use Rattle.mpb_report_laws.specs.Values.{HasOpValues};
 pub fn texts_are_judged()
     ensures { (text : List ℕ) → length text < 2 ^ 32 → ((r : ReportOf) × IsReportOf r text)
         ⊎ ((n : ℕ) × (w : WhyOf) × IsFirstBadLine IsReport text n w) }
+{}
+
+/// The numbers of all ops of a board that a platform and a script describe are those of their types. The
+/// ids are those of bytes.
+pub fn boards_have_op_values()
+    ensures { (p : APlatform) (s : AScript) → board_fault_of p s ≡ None → HasScriptValues s → AreBytes (enabled_ids p)
+        → HasOpValues (board_config_of p (routes_of p s.elcr) s) }
 {}
 
 /// The report of a legal run of a config is read back as what it says: its entries, its logs, and the

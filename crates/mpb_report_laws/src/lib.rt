@@ -4,6 +4,6 @@
 mod laws;
 
 pub use laws::{
-    complete_runs_are_legal, report_has_one_run, runs_are_read_back, texts_are_judged,
-    traces_are_legal,
+    boards_have_op_values, complete_runs_are_legal, report_has_one_run, runs_are_read_back,
+    texts_are_judged, traces_are_legal,
 };

@@ -63,6 +63,26 @@ const WORDS: &[Case] = &[
         text: USAGE,
     },
     Case {
+        words: &["replay", IMAGE, SCRIPT],
+        status: 2,
+        text: USAGE,
+    },
+    Case {
+        words: &["replay", IMAGE, SCRIPT, SCRIPT, SCRIPT],
+        status: 2,
+        text: USAGE,
+    },
+    Case {
+        words: &["replay", IMAGE, SCRIPT, SCRIPT],
+        status: 8,
+        text: "mptab: report line 1 Form\n",
+    },
+    Case {
+        words: &["replay", IMAGE, IMAGE, "x"],
+        status: 8,
+        text: "mptab: script not toml\n",
+    },
+    Case {
         words: &["trace", IMAGE, "x"],
         status: 3,
         text: "mptab: no file x\n",
@@ -187,8 +207,6 @@ const IMAGE_UNREAD: &str = "mptab: cannot read board.img\n";
 
 const SCRIPT_UNREAD: &str = "mptab: cannot read boot.toml\n";
 
-const REPORT_UNREAD: &str = "mptab: cannot read report.txt\n";
-
 /// A call of the shelf that fails, and the line: of the image its size, two words, the EBDA's area, header and
 /// table; of the script its size and its bytes.
 const CALLS: &[(u64, &str)] = &[
@@ -226,55 +244,45 @@ fn calls_of_the_shelf(rt: HostRuntime) -> Result<(), Fail> {
     Ok(())
 }
 
-/// The answer of `replay` to that report of its board, where a call of the shelf fails and a put of the sink.
-fn judged<R: Threads + Wait + Sync>(
+/// The answer of `replay` to the report of one processor without words, where a call of the shelf fails and a
+/// put of the sink; 0 is none.
+fn replayed<R: Threads + Wait + Sync>(
     rt: &R,
     alloc: Global,
     call: u64,
     put: u64,
 ) -> Result<Answer, Fail> {
-    let script = script_of(alloc, "\"pause 1\",", 200, 0)?;
-    let mut shelf = shelf_of(alloc, ONE, script.as_slice())?;
-    let report = long_report(alloc)?;
-    shelf.add(REPORT, report.as_str().as_bytes())?;
+    let mut shelf = shelf_of(alloc, ONE, b"page = 0x9F\n")?;
+    shelf.add(REPORT, NOTHING.as_bytes())?;
     shelf.fail(call)?;
-    answer_of(
-        rt,
-        alloc,
-        &["replay", IMAGE, SCRIPT, REPORT],
-        &mut shelf,
-        put,
-    )
+    let words = ["replay", IMAGE, SCRIPT, REPORT];
+    answer_of(rt, alloc, &words, &mut shelf, put)
 }
 
-/// The calls behind those of image and script: the report's size and its bytes.
-const CALLS_OF_THE_REPORT: &[(u64, &str)] = &[(9, REPORT_UNREAD), (10, REPORT_UNREAD)];
+const REPORT_UNREAD: &str = "mptab: cannot read report.txt\n";
 
-/// The first of these calls whose failure has another answer of `replay`.
-fn first_wrong_of_replay<R: Threads + Wait + Sync>(
-    rt: &R,
-    alloc: Global,
-    calls: &[(u64, &str)],
-) -> Result<Option<u64>, Fail> {
-    for (call, line) in calls {
-        let answer = judged(rt, alloc, *call, 0)?;
-        if !answer.is(4, line) {
-            return Ok(Some(*call));
-        }
+#[test]
+fn calls_of_the_shelf_by_a_replay(rt: HostRuntime) -> Result<(), Fail> {
+    for (call, line) in CALLS {
+        let answer = replayed(&rt, rt.alloc(), *call, 0)?;
+        assert!(rt; answer.is(4, line), "call {call}");
     }
-    Ok(None)
+    // The report's size and its bytes.
+    for call in [9, 10] {
+        let answer = replayed(&rt, rt.alloc(), call, 0)?;
+        assert!(rt; answer.is(4, REPORT_UNREAD), "call {call}");
+    }
+    let answer = replayed(&rt, rt.alloc(), 11, 0)?;
+    assert!(rt; answer.is(0, "replay legal\n"), "there are ten calls");
+    Ok(())
 }
 
 #[test]
-fn calls_and_puts_of_replay(rt: HostRuntime) -> Result<(), Fail> {
-    let wrong = first_wrong_of_replay(&rt, rt.alloc(), CALLS)?;
-    same(&rt, "of image and script", wrong, None);
-    let wrong = first_wrong_of_replay(&rt, rt.alloc(), CALLS_OF_THE_REPORT)?;
-    same(&rt, "of the report", wrong, None);
-    let whole = judged(&rt, rt.alloc(), 11, 2)?;
-    assert!(rt; whole.is(0, "replay legal\n"));
-    let cut = judged(&rt, rt.alloc(), 11, 1)?;
-    assert!(rt; cut.is(5, ""));
+fn puts_of_the_sink_by_a_replay(rt: HostRuntime) -> Result<(), Fail> {
+    let answer = replayed(&rt, rt.alloc(), 0, 1)?;
+    assert!(rt; answer.is(5, ""), "the put fails");
+    let answer = replayed(&rt, rt.alloc(), 0, 2)?;
+    assert!(rt; answer.is(0, "replay legal\n"), "there is one put");
     Ok(())
 }
 

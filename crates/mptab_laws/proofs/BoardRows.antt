@@ -26,6 +26,8 @@ use Rattle.mpb_spec.specs.declared.pulse.Hit.{Hit}
 use Rattle.mpb_robin.proofs.OneEnd.{some_end, same_end}
 use Rattle.mpb_robin.proofs.AtTheEnd.{is_complete, is_accounted}
 use Rattle.mpb_report.specs.Report.{report_of}
+use Rattle.mpb_report_laws.specs.Values.{HasOpValues}
+use Rattle.mpb_report_laws.proofs.BoardOps.{board_values}
 use Rattle.mpb_drill.specs.Drill.{drill_tables, drill_script}
 use Rattle.mpb_drill.proofs.DrillLemmas.{no_fault_of, values_of, bytes_of}
 use Rattle.mpb_tally.specs.Tally.{tally_of}
@@ -65,11 +67,14 @@ module _ (tables : Tables) (s : Script) (values : IsTablesValue tables) (words :
   pub board_config : IsConfig (board_of tables s)
   board_config = config_right (platform_of tables) s sound words
 
-  small : plan_size (board_of tables s) < 2 ^ 32
+  pub small : plan_size (board_of tables s) < 2 ^ 32
   small = (config_small (platform_of tables) s sound words (bytes_enabled tables values)).size
 
   startable : IsStartableAt s.page (board_of tables s)
   startable = config_starts (platform_of tables) s sound words
+
+  pub op_values : HasOpValues (board_of tables s)
+  op_values = board_values (platform_of tables) s sound words (bytes_enabled tables values)
 
   pub trace_some : (text : List ℕ) × IsTraceOf (board_of tables s) text
   trace_some =

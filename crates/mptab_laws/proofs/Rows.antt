@@ -134,6 +134,19 @@ understood_read files (AcpiTable name) u = IsRead-only files (AcpiTable name) (I
 understood_read files (RoutingTable name) u = IsRead-only files (RoutingTable name) (IsPir u.0) (λ b. ⊤) (λ b e w p. tt) u.1
 understood_read files (Calls name) u = IsRead-only files (Calls name) (IsTextOf u.0) (λ b. ⊤) (λ b e w p. tt) u.1
 
+-- a refusal has another status than 0
+pub refused_fails : (told : Option Files) (file : Named) (s : ℕ) (t : List ℕ) → IsRefused told file s t → s ≡ 0 → ⊥
+refused_fails told (Image name) s t (inl a) e = omega (arith, a.0, e)
+refused_fails told (Image name) s t (inr a) e = omega (arith, a.0, e)
+refused_fails told (Listing name) s t (inl a) e = omega (arith, a.0, e)
+refused_fails told (Listing name) s t (inr a) e = omega (arith, a.0, e)
+refused_fails told (Script image name) s t (inl a) e = omega (arith, a.0, e)
+refused_fails told (Script image name) s t (inr a) e = omega (arith, a.0, e)
+refused_fails told (Report name) s t a e = omega (arith, a.0, e)
+refused_fails told (AcpiTable name) s t a e = omega (arith, a.0, e)
+refused_fails told (RoutingTable name) s t a e = omega (arith, a.0, e)
+refused_fails told (Calls name) s t a e = omega (arith, a.0, e)
+
 -- an image gives one tables alone
 image_one : (files : Files) (name : List ℕ) (t u : Tables) → ImageGives (Some files) name t → ImageGives (Some files) name u → t ≡ u
 image_one files name t u a b =
@@ -153,7 +166,7 @@ script_one files image name s u a b =
     IsScriptOf-unique both.0 s u both.1 both.2
 
 -- and a report
-report_one : (files : Files) (name : List ℕ) (r q : AReport) → ReportGives (Some files) name r → ReportGives (Some files) name q → r ≡ q
+pub report_one : (files : Files) (name : List ℕ) (r q : AReport) → ReportGives (Some files) name r → ReportGives (Some files) name q → r ≡ q
 report_one files name r q a b =
     let both = IsRead-meet files (Report name) (IsReportOf r) (IsReportOf q) a b in
     report_is_one r q both.0 both.1 both.2
@@ -355,7 +368,7 @@ listing_good : (files : Files) (name : List ℕ) (t : Tables) → ListingGives (
 listing_good files name t gives = (gives.0.well_formed, omega (arith, gives.0.high))
 
 -- the values of an image's tables fit their fields
-image_values : (files : Files) (name : List ℕ) (t : Tables) → AreBytesTold files → ImageGives (Some files) name t → IsTablesValue t
+pub image_values : (files : Files) (name : List ℕ) (t : Tables) → AreBytesTold files → ImageGives (Some files) name t → IsTablesValue t
 image_values files name t bytes gives =
     let read = IsRead-bytes files (Image name) (λ image. Describes image t) gives in
     Describes-value read.0 t (told_byte (files name) read.0 read.1 (bytes name)) read.3
@@ -386,7 +399,7 @@ with_one : (gives : Tables → Type 0) (P Q : Tables → Type 0) (R : Type 0) �
 with_one gives P Q R one both a b = both a.0 a.4 (subst Q (sym (one a.0 b.0 a.3 b.3)) b.4)
 
 -- and of a board
-board_one : (files : Files) (image script : List ℕ) (P Q : Tables → AScript → Type 0) (R : Type 0) → ((t : Tables) (s : AScript) → P t s → Q t s → R) → WithBoard (Some files) image script P → WithBoard (Some files) image script Q → R
+pub board_one : (files : Files) (image script : List ℕ) (P Q : Tables → AScript → Type 0) (R : Type 0) → ((t : Tables) (s : AScript) → P t s → Q t s → R) → WithBoard (Some files) image script P → WithBoard (Some files) image script Q → R
 board_one files image script P Q R both a b =
     with_one (ImageGives (Some files) image) _ _ R (image_one files image)
     (λ t p q. both t p.0 p.3 (subst (Q t) (sym (script_one files image script p.0 q.0 p.1 q.1)) q.3)) a b

@@ -59,7 +59,7 @@ end_is_one files (h ∷ hs) f g s u t v (inr a) ef (inl b) eg = absurd (ends_not
 end_is_one files (h ∷ hs) f g s u t v (inr a) ef (inr b) eg = end_is_one files hs f g s u t v a.1 ef b.1 eg
 
 -- where it ends at a file, not each is understood
-end_not_all : (files : Files) (fs : List Named) (f : Named) (s : ℕ) (t : List ℕ) → Reaches (Some files) fs f → EndsAt (Some files) f s t → AllByRecursion (IsUnderstood (Some files)) fs → ⊥
+pub end_not_all : (files : Files) (fs : List Named) (f : Named) (s : ℕ) (t : List ℕ) → Reaches (Some files) fs f → EndsAt (Some files) f s t → AllByRecursion (IsUnderstood (Some files)) fs → ⊥
 end_not_all files [] f s t r e all = absurd r
 end_not_all files (h ∷ hs) f s t (inl a) e all = ends_not_understood files h s t (subst (λ (x : Named). EndsAt (Some files) x s t) (sym a) e) all.0
 end_not_all files (h ∷ hs) f s t (inr a) e all = end_not_all files hs f s t a.1 e all.1

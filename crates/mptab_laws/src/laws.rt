@@ -1,15 +1,19 @@
 //! Words and told files have an answer, all their answers have one status, and, but for a form with many
 //! texts, there is one alone.
 
-ghost use Rattle.std.specs.Prelude.{◌≡◌, ◌⊎◌, ℕ, List, Option, Some};
-ghost use Rattle.mpt_base.specs.Outside.{Files};
+ghost use Rattle.std.specs.Prelude.{◌≡◌, ◌⊎◌, ℕ, List, [], ◌∷◌, codes, Option, Some};
+ghost use Rattle.mpt_base.specs.Outside.{Files, Appends};
 ghost use Rattle.mpt_base.specs.declared.fault.Reason.{Reason};
 ghost use Rattle.mpt_spec.specs.Faults.{IsFirstFault};
 ghost use Rattle.mpb_tally.specs.Summary.{IsSummaryOf};
+ghost use Rattle.mpb_report_line.specs.declared.report.Report.{Report as AReport};
+ghost use Rattle.mpb_report_parse.specs.Reports.{IsReportOf};
+ghost use Rattle.mpb_replay_laws.specs.declared.verdict.Verdict.TheVariants.{Legal};
+ghost use Rattle.mpb_boot.specs.Lines.{verdict_line};
 ghost use Rattle.mptab_calls.specs.Commands.{fault_line};
 ghost use Rattle.mptab_calls.specs.Forms.{Form, Drill, IsForm, IsAny, IsStill, IsRead, Image, files_of};
 ghost use Rattle.mptab_calls.specs.Walk.{Outside, IsAnswer, Answers, Reaches};
-ghost use Rattle.mptab_laws.specs.Laws.{AreBytesTold, HaveOneText, AreAlike};
+ghost use Rattle.mptab_laws.specs.Laws.{AreBytesTold, HaveOneText, AreAlike, IsReported, IsKept};
 
 /// Words and told files of bytes have an answer.
 pub fn words_have_an_answer()
@@ -64,4 +68,34 @@ pub fn drills_are_summed_up()
     ensures still_status { (told : Option Files) (before after : Outside) (words : List (List ℕ)) (n result : ℕ)
         → IsForm (Drill n) words → Answers IsStill told before after words result
         → (result ≡ 0) ⊎ ((result ≡ 5) ⊎ (result ≡ 9)) }
+{}
+
+/// What is given with status 0 is an answer, whole.
+pub fn zero_is_an_answer()
+    ensures any { (told : Option Files) (before after : Outside) (words : List (List ℕ)) → Answers IsAny told before after words 0
+        → (text : List ℕ) × IsAnswer IsAny told words 0 text × Appends before.written after.written text }
+    ensures still { (told : Option Files) (before after : Outside) (words : List (List ℕ)) → Answers IsStill told before after words 0
+        → (text : List ℕ) × IsAnswer IsStill told words 0 text × Appends before.written after.written text }
+{}
+
+/// What `trace` or `boot` answers with status 0 is read back as a report. The one answer to `replay` with the same image
+/// and script and a file of this text is that it is legal, with status 0. What is given to its words has status 0, 4
+/// where the shelf failed, 5 where the sink failed, or 9 where memory ran out.
+pub fn reports_are_replayed()
+    ensures read { (files : Files) (image script text : List ℕ) → AreBytesTold files → IsReported IsAny files image script text
+        → (r : AReport) × IsReportOf r text }
+    ensures any { (files after : Files) (image script report text t : List ℕ) (s : ℕ) → AreBytesTold files
+        → IsReported IsAny files image script text → IsKept files after image script report text
+        → IsAnswer IsAny (Some after) (codes "replay" ∷ image ∷ script ∷ report ∷ []) s t → (s ≡ 0) × (t ≡ verdict_line Legal) }
+    ensures still { (files after : Files) (image script report text t : List ℕ) (s : ℕ) → AreBytesTold files
+        → IsReported IsAny files image script text → IsKept files after image script report text
+        → IsAnswer IsStill (Some after) (codes "replay" ∷ image ∷ script ∷ report ∷ []) s t → (s ≡ 0) × (t ≡ verdict_line Legal) }
+    ensures any_status { (files told : Files) (image script report text : List ℕ) (before after : Outside) (result : ℕ) → AreBytesTold files
+        → IsReported IsAny files image script text → IsKept files told image script report text
+        → Answers IsAny (Some told) before after (codes "replay" ∷ image ∷ script ∷ report ∷ []) result
+        → (result ≡ 0) ⊎ ((result ≡ 4) ⊎ ((result ≡ 5) ⊎ (result ≡ 9))) }
+    ensures still_status { (files told : Files) (image script report text : List ℕ) (before after : Outside) (result : ℕ) → AreBytesTold files
+        → IsReported IsAny files image script text → IsKept files told image script report text
+        → Answers IsStill (Some told) before after (codes "replay" ∷ image ∷ script ∷ report ∷ []) result
+        → (result ≡ 0) ⊎ ((result ≡ 4) ⊎ ((result ≡ 5) ⊎ (result ≡ 9))) }
 {}
