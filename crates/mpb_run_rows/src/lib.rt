@@ -4,6 +4,8 @@
 #[cfg(test)]
 mod boards;
 #[cfg(test)]
+mod drills;
+#[cfg(test)]
 mod harness;
 #[cfg(test)]
 mod reports;
