@@ -78,7 +78,7 @@ fn with_bytes(places: [(usize, u8); 4]) -> [u8; 88] {
 }
 
 // faults of the header, each alone and before each that stands beside it: a wrong signature, length or
-// checksum, and at 61 the length of an entry
+// checksum, at 61 the length of an entry, and at 82 an entry of type 9 whose seven bytes pass the end
 #[test]
 fn headers_have_their_first_fault(rt: HostRuntime) -> Result<(), Fail> {
     let alloc = rt.alloc();
@@ -87,6 +87,8 @@ fn headers_have_their_first_fault(rt: HostRuntime) -> Result<(), Fail> {
     let length = (4, 0x57);
     let checksum = (9, 0xC2);
     let entry = (61, 0x0D);
+    let other = (82, 9);
+    let seven = (83, 7);
     let rows = [
         (
             "signature",
@@ -113,6 +115,12 @@ fn headers_have_their_first_fault(rt: HostRuntime) -> Result<(), Fail> {
             MadtReason::BadSignature,
         ),
         (
+            "signature, cut entry",
+            [signature, other, seven, (9, 0xBA)],
+            0,
+            MadtReason::BadSignature,
+        ),
+        (
             "length",
             [length, (9, 0xC2), none, none],
             4,
@@ -127,6 +135,12 @@ fn headers_have_their_first_fault(rt: HostRuntime) -> Result<(), Fail> {
         (
             "length, entry",
             [length, entry, none, none],
+            4,
+            MadtReason::BadLength,
+        ),
+        (
+            "length, cut entry",
+            [length, other, seven, (9, 0xBC)],
             4,
             MadtReason::BadLength,
         ),
@@ -147,6 +161,18 @@ fn headers_have_their_first_fault(rt: HostRuntime) -> Result<(), Fail> {
             [entry, none, none, none],
             9,
             MadtReason::BadSum,
+        ),
+        (
+            "checksum, cut entry",
+            [other, seven, none, none],
+            9,
+            MadtReason::BadSum,
+        ),
+        (
+            "cut entry",
+            [other, seven, (9, 0xBB), none],
+            82,
+            MadtReason::CutEntry,
         ),
         (
             "entry",

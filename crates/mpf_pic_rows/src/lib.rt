@@ -9,4 +9,6 @@ mod harness;
 #[cfg(test)]
 mod rows;
 #[cfg(test)]
+mod stages;
+#[cfg(test)]
 mod words;

@@ -37,7 +37,17 @@ const SECOND: Entries = Entries {
     second: EXTINT,
 };
 
+/// None that does.
+const NONE: Entries = Entries {
+    low: MASKED,
+    high: 0,
+    ninth: MASKED,
+    second: MASKED,
+};
+
 const BOTH: Wired = Wired::By(LINT, ALL);
+
+const LINT_ALONE: Wired = Wired::By(LINT, NONE);
 
 const PIN: Wired = Wired::By(IntEntry { kind: 1, ..LINT }, ALL);
 
@@ -163,6 +173,36 @@ const WAYS: &[WayRow] = &[
         way: Path::Direct,
     },
     WayRow {
+        name: "the register before LINTIN 0 alone",
+        imcr: true,
+        wired: LINT_ALONE,
+        way: Path::Direct,
+    },
+    WayRow {
+        name: "the register before a pin alone",
+        imcr: true,
+        wired: PIN,
+        way: Path::Direct,
+    },
+    WayRow {
+        name: "the register alone",
+        imcr: true,
+        wired: Wired::Nothing,
+        way: Path::Direct,
+    },
+    WayRow {
+        name: "LINTIN 0 alone",
+        imcr: false,
+        wired: LINT_ALONE,
+        way: Path::Lint,
+    },
+    WayRow {
+        name: "nothing",
+        imcr: false,
+        wired: Wired::Nothing,
+        way: Path::Closed,
+    },
+    WayRow {
         name: "LINTIN 0 before pins",
         imcr: false,
         wired: BOTH,
@@ -280,15 +320,7 @@ const WAYS: &[WayRow] = &[
     WayRow {
         name: "all are masked",
         imcr: false,
-        wired: Wired::By(
-            IntEntry { kind: 1, ..LINT },
-            Entries {
-                low: MASKED,
-                ninth: MASKED,
-                second: MASKED,
-                ..ALL
-            },
-        ),
+        wired: Wired::By(IntEntry { kind: 1, ..LINT }, NONE),
         way: Path::Closed,
     },
 ];

@@ -2,6 +2,7 @@
 
 use crate::harness::{bus, int, made, platform, same};
 use mpf_pir::{Difference, Odd, PirReason, PirRefusal, compare, read_pir, write_pir};
+use mpt_base::put_bytes;
 use mpt_route::Platform;
 use std::alloc::{AllocError, Global};
 use std::test::Fail;
@@ -88,8 +89,8 @@ fn fault(at: u64, why: PirReason) -> Option<PirRefusal> {
     Some(PirRefusal::Fault { at, why })
 }
 
-// the board's table with two bytes in the place of others
-fn with_bytes(places: [(usize, u8); 2]) -> [u8; 48] {
+// the board's table with three bytes in the place of others
+fn with_bytes(places: [(usize, u8); 3]) -> [u8; 48] {
     let mut bytes = TABLE;
     for (at, byte) in places {
         if at < 48 {
@@ -106,68 +107,68 @@ fn the_first_fault_is_told(rt: HostRuntime) -> Result<(), Fail> {
     let rows = [
         (
             "signature",
-            [(0, 0x25), (31, 0xAE)],
+            [(0, 0x25), (31, 0xAE), none],
             0,
             PirReason::BadSignature,
         ),
         (
             "signature, sum",
-            [(3, 0x53), none],
+            [(3, 0x53), none, none],
             0,
             PirReason::BadSignature,
         ),
         (
             "signature, version",
-            [(0, 0x25), (5, 0x00)],
+            [(0, 0x25), (5, 0x00), none],
             0,
             PirReason::BadSignature,
         ),
         (
             "signature, size",
-            [(0, 0x25), (6, 0x20)],
+            [(0, 0x25), (6, 0x20), (31, 0xBE)],
             0,
             PirReason::BadSignature,
         ),
         (
             "version 0.0",
-            [(5, 0x00), (31, 0xB0)],
+            [(5, 0x00), (31, 0xB0), none],
             4,
             PirReason::BadVersion,
         ),
         (
             "version 1.1, sum",
-            [(4, 0x01), none],
+            [(4, 0x01), none, none],
             4,
             PirReason::BadVersion,
         ),
         (
             "version, size",
-            [(4, 0x01), (6, 0x31)],
+            [(4, 0x01), (6, 0x31), (31, 0xAD)],
             4,
             PirReason::BadVersion,
         ),
         (
             "a size of 32",
-            [(6, 0x20), (31, 0xBF)],
+            [(6, 0x20), (31, 0xBF), none],
             6,
             PirReason::BadSize,
         ),
         (
             "a size of 49, sum",
-            [(6, 0x31), none],
+            [(6, 0x31), none, none],
             6,
             PirReason::BadSize,
         ),
         (
             "a size of 304, sum",
-            [(7, 0x01), none],
+            [(7, 0x01), none, none],
             6,
             PirReason::BadSize,
         ),
-        ("sum", [(31, 0xAE), none], 31, PirReason::BadSum),
+        ("sum", [(31, 0xAE), none, none], 31, PirReason::BadSum),
         (
             "a byte of a slot, sum",
-            [(47, 0x01), none],
+            [(47, 0x01), none, none],
             31,
             PirReason::BadSum,
         ),
@@ -205,6 +206,16 @@ fn cut_tables_have_their_first_fault(rt: HostRuntime) -> Result<(), Fail> {
         "31 zeros",
         fault_of(alloc, &[0; 31]),
         fault(0, PirReason::Short),
+    );
+    let mut odd = [0; 49];
+    put_bytes(&mut odd, 0, &TABLE);
+    odd[6] = 0x31;
+    odd[31] = 0xAE;
+    same(
+        &rt,
+        "49 bytes of size 49",
+        fault_of(alloc, &odd),
+        fault(6, PirReason::BadSize),
     );
     same(&rt, "the same bytes", fault_of(alloc, &TABLE), None);
     Ok(())

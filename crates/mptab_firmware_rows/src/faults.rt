@@ -173,6 +173,13 @@ const EARLIER: &[Row] = &[
         text: b"mptab: board boot absent 00\n",
     },
     Row {
+        name: "a board without its boot processor, and calls that are refused",
+        words: &["pic", "image", "file", "file"],
+        file: b"page = 0x9F\npresent = [1]\n",
+        status: 11,
+        text: b"mptab: board boot absent 00\n",
+    },
+    Row {
         name: "a MADT where a routing table is wanted",
         words: &["pircmp", "image", "file"],
         file: MADT,

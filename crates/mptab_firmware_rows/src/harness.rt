@@ -34,6 +34,11 @@ impl Answer {
     pub(crate) fn is(&self, status: u8, text: &[u8]) -> bool {
         self.status == status && self.text.as_slice() == text
     }
+
+    /// Whether it is this status with a text that ends like this.
+    pub(crate) fn ends(&self, status: u8, text: &[u8]) -> bool {
+        self.status == status && self.text.as_slice().ends_with(text)
+    }
 }
 
 /// Asserts that two values are the same, at one place for every row.

@@ -3,6 +3,8 @@
 #![tactic(auto)]
 
 #[cfg(test)]
+mod differing;
+#[cfg(test)]
 mod failing;
 #[cfg(test)]
 mod faults;

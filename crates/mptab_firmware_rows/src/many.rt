@@ -1,6 +1,9 @@
 //! Platforms that no table of firmware has room for.
 
+ghost use Rattle.std.specs.Prelude.{◌<◌};
+
 use crate::harness::{Answer, answer_to, built, same};
+use crate::usual::{MADT, PIR};
 use mpt_base::MemShelf;
 use std::alloc::Global;
 use std::test::Fail;
@@ -16,6 +19,8 @@ fn of_lines(alloc: Global, command: &[&str], lines: &str) -> Result<Answer, Fail
     let image = built(alloc, text.as_str().as_bytes())?;
     let mut shelf = MemShelf::new(alloc);
     shelf.add("image", image.text.as_slice())?;
+    shelf.add("madt", MADT)?;
+    shelf.add("pir", PIR)?;
     answer_to(alloc, command, &mut shelf, 0)
 }
 
@@ -40,6 +45,17 @@ fn many_processors(rt: HostRuntime) -> Result<(), Fail> {
         &rt,
         "256 processors",
         many.is(13, b"mptab: madt many processors 256\n"),
+        true,
+    );
+    let compared = of_lines(
+        rt.alloc(),
+        &["madtcmp", "image", "0000", "madt"],
+        lines.as_str(),
+    )?;
+    same(
+        &rt,
+        "256 processors compared",
+        compared.is(0, b"differs 0\n"),
         true,
     );
     Ok(())
@@ -74,11 +90,20 @@ fn many_links(rt: HostRuntime) -> Result<(), Fail> {
         many.is(15, b"mptab: pir many links 256\n"),
         true,
     );
+    let compared = of_lines(rt.alloc(), &["pircmp", "image", "pir"], lines.as_str())?;
+    same(
+        &rt,
+        "256 wires compared",
+        compared.ends(1, b"bus 01 device 1F pin D onlymp\ndiffers 255\n"),
+        true,
+    );
     Ok(())
 }
 
-/// PCI buses from 0 on, and an interrupt of pin A of so many devices, all on one wire.
-fn devices(alloc: Global, count: u32) -> Result<String, Fail> {
+/// PCI buses from 0 on, and an interrupt of pin A of so many devices, on so many wires in turn.
+fn devices(alloc: Global, count: u32, turn: u32) -> Result<String, Fail>
+    requires { 0 < turn }
+{
     let mut lines = String::new(alloc);
     for bus in 0..128 {
         let line = format!(in alloc; "bus id {bus:02X} name \"PCI   \"\n")?;
@@ -87,8 +112,10 @@ fn devices(alloc: Global, count: u32) -> Result<String, Fail> {
     for n in 0..count {
         let bus = n / 32;
         let irq = n % 32 * 4;
+        let dest = n % turn / 256;
+        let pin = n % turn % 256;
         let line = format!(in alloc;
-            "ioint kind 00 flags 0000 bus {bus:02X} irq {irq:02X} dest 00 pin 10\n"
+            "ioint kind 00 flags 0000 bus {bus:02X} irq {irq:02X} dest {dest:02X} pin {pin:02X}\n"
         )?;
         lines.push_str(line.as_str())?;
     }
@@ -97,13 +124,12 @@ fn devices(alloc: Global, count: u32) -> Result<String, Fail> {
 
 #[test]
 fn many_slots(rt: HostRuntime) -> Result<(), Fail> {
-    let lines = devices(rt.alloc(), 4094)?;
+    let want = b"mptab: pir many slots 4094\n";
+    let lines = devices(rt.alloc(), 4094, 1)?;
     let many = of_lines(rt.alloc(), &["pirmake", "image"], lines.as_str())?;
-    same(
-        &rt,
-        "4,094 devices",
-        many.is(15, b"mptab: pir many slots 4094\n"),
-        true,
-    );
+    same(&rt, "4,094 devices", many.is(15, want), true);
+    let lines = devices(rt.alloc(), 4094, 256)?;
+    let many = of_lines(rt.alloc(), &["pirmake", "image"], lines.as_str())?;
+    same(&rt, "with 256 wires", many.is(15, want), true);
     Ok(())
 }
