@@ -125,13 +125,25 @@ def map_rows():
         yield number, re.sub(r"\[`(\w+)`\]\([^)]*\)|`(\w+)`", r"\1\2", crate), cells
 
 
+def used_above(cell):
+    """The calls and types of a cell of the map: of `Type::call` the call."""
+    return [name.split("::")[-1] for name in re.findall(r"`([^`]+)`", cell)]
+
+
+def declares(crate, name):
+    """Whether a crate's sources declare a function or a type of that name."""
+    sources = (TOP / "crates" / crate / "src").rglob("*.rt")
+    return any(re.search(rf"\b(?:fn|struct|enum|trait) {name}\b", path.read_text("utf-8")) for path in sources)
+
+
 def told(names):
     """The cell of what a crate stands on."""
     return ", ".join(f"`{name}`" for name in names)
 
 
 def map_findings():
-    """Where the map differs from crates.txt: a crate without a row, a row without a crate, another cell or order."""
+    """Where the map differs from crates.txt or the sources: a crate without a row, a row without a crate, another cell or
+    order, a call that the crate doesn't have."""
     wanted, found = stands_on(), {}
     for number, crate, cells in map_rows():
         found[crate] = cells
@@ -141,6 +153,8 @@ def map_findings():
             yield f"docs/MAP.md:{number}: {crate} stands on {told(wanted[crate])}; scripts/claims --map writes it"
         elif not cells[0]:
             yield f"docs/MAP.md:{number}: nothing says what {crate} does"
+        else:
+            yield from (f"docs/MAP.md:{number}: {crate} has no {name}" for name in used_above(cells[2]) if not declares(crate, name))
     yield from (f"docs/MAP.md: no row of {crate}" for crate in wanted if crate not in found)
     order = [crate for crate in found if crate in wanted]
     if order != [crate for crate in wanted if crate in found]:

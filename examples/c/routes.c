@@ -15,15 +15,17 @@ int main(int argc, char **argv) {
     fclose(file);
     uint16_t elcr = argc > 2 ? (uint16_t)strtoul(argv[2], NULL, 16) : 0;
 
-    /* A first call says how much room the text needs, a second writes it there. */
+    /* A first call says how much room the text needs, a second writes it there: that text, or the line for
+     * want of memory, which may be longer than the room. */
     uint8_t none[1];
-    size_t needed;
-    mptab_route(image, len, elcr, none, 0, &needed);
-    uint8_t *text = malloc(needed);
+    size_t room, needed;
+    mptab_route(image, len, elcr, none, 0, &room);
+    uint8_t *text = malloc(room + 1);
     if (!text)
         return MPTAB_NO_MEMORY;
-    uint8_t status = mptab_route(image, len, elcr, text, needed, &needed);
-    fwrite(text, 1, needed, stdout);
+    uint8_t status = mptab_route(image, len, elcr, text, room, &needed);
+    if (status != MPTAB_NO_ROOM)
+        fwrite(text, 1, needed, stdout);
     free(text);
     free(image);
     return status;

@@ -1,6 +1,6 @@
-//! The public calls of the crates for tables on rows whose answers come from outside. It holds tests
-//! alone, so that no crate is proved twice for their sake; each file is named after its crate or its
-//! subject.
+//! The public calls of the crates for tables on rows whose answers come from outside, so that no crate is
+//! proved twice for their sake; each file is named after its crate or its subject. Beside these tests stands
+//! a plain program for the places of the search, by which worked cases are run against their definition.
 #![tactic(auto)]
 
 #[cfg(test)]
@@ -19,6 +19,7 @@ mod listing;
 mod outside;
 #[cfg(test)]
 mod places;
+mod plain;
 #[cfg(test)]
 mod pointer;
 #[cfg(test)]
@@ -29,3 +30,5 @@ mod spelled;
 mod tables;
 #[cfg(test)]
 mod written;
+
+pub use plain::search_places;

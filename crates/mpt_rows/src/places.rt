@@ -2,7 +2,7 @@
 
 use crate::harness::{put, same};
 use crate::pointer::zeros;
-use mpt_plain::search_places;
+use crate::search_places;
 use std::test::Fail;
 
 // The EBDA is at 500h, and the image ends in it.

@@ -1,7 +1,7 @@
 use Rattle.std.proofs.Common.{◌≡◌, ◌++◌, ◌+◌, ◌-◌, ◌/◌, ◌∙◌, ap, arith}
 use Rattle.std.specs.Int.{div_ceil}
-use Rattle.mpt_plain.proofs.PieceLemmas.{multiples, no_multiples, multiples_more}
-use Rattle.mpt_plain.proofs.places.push_places.Goals as goal
+use Rattle.mpt_rows.proofs.PieceLemmas.{multiples, no_multiples, multiples_more}
+use Rattle.mpt_rows.proofs.plain.push_places.Goals as goal
 
 pub loop-paragraph-init : goal.loop-paragraph-init
 loop-paragraph-init c =

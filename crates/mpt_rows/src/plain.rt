@@ -1,5 +1,6 @@
 //! All places at which the floating pointer is looked for (MultiProcessor Specification 1.4,
-//! section 4.1).
+//! section 4.1): a plain program beside the definition. It is kept slow on purpose, and does what the
+//! definition says, in its order; a faster body keeps the contract.
 
 ghost use Rattle.std.specs.Prelude.{◌≡◌, ◌++◌, ◌<◌, ◌^◌, IfOk, OnOk};
 ghost use Rattle.std.specs.List.{flat_map};
