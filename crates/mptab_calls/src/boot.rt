@@ -1,6 +1,6 @@
 //! What `boot` gives.
 
-ghost use Rattle.std.specs.Prelude.{◌≤◌, ◌+◌, ℕ, List};
+ghost use Rattle.std.specs.Prelude.{◌≡◌, ◌≤◌, ◌+◌, ℕ, List};
 ghost use Rattle.mptab_calls.specs.Forms.{Boot, files_of};
 ghost use Rattle.mptab_calls.specs.Walk.{IsDueOf, IsDelivered, AsksOf, outside_of};
 
@@ -28,6 +28,7 @@ pub(crate) fn give_of_boot<R: Threads + Wait + Sync, S: Shelf, O: Sink, G: Gate 
     ensures due { (status : ℕ) × (text : List ℕ)
         × IsDueOf (S.files shelf.old) (outside_of S.Shelf O.Sink shelf.old out.old) (outside_of S.Shelf O.Sink shelf.new out.new) (Boot files.entry.image.now files.entry.script.now) status text
         × IsDelivered (outside_of S.Shelf O.Sink shelf.old out.old) (outside_of S.Shelf O.Sink shelf.new out.new) result status text }
+    ensures files_stay { S.files shelf.new ≡ S.files shelf.old }
     ensures asks { (n : ℕ) × (S.asked shelf.new ≤ S.asked shelf.old + n) × AsksOf (S.files shelf.old) (files_of (Boot files.entry.image.now files.entry.script.now)) n }
 {
     match take_board(alloc, files, shelf) {

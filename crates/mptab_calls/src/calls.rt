@@ -1,6 +1,6 @@
 //! The top calls.
 
-ghost use Rattle.std.specs.Prelude.{MatchOption};
+ghost use Rattle.std.specs.Prelude.{◌≡◌, MatchOption};
 ghost use Rattle.mptab_calls.specs.Forms.{IsStill, IsAny, IsForm, form_of_still};
 ghost use Rattle.mptab_calls.specs.Walk.{texts_of, IsNoForm};
 ghost use Rattle.mptab_calls.specs.TopCall.{GivesAnswer, HasCause, IsWhole, HidesNoFailure, HidesNoMiss, AsksNoMore};
@@ -34,6 +34,7 @@ fn still_of(words: &[String]) -> Option<StillCommand>
 // the walk over words and files of the forms that need no threads
 fn walk_still<S: Shelf, O: Sink>(alloc: Global, words: &[String], shelf: &mut S, out: &mut O) -> u8
     ensures answer { GivesAnswer IsStill S.Shelf O.Sink words.now shelf.old out.old shelf.new out.new result }
+    ensures files_stay { S.files shelf.new ≡ S.files shelf.old }
     ensures asks { AsksNoMore IsStill S.Shelf O.Sink words.now shelf.old out.old shelf.new out.new }
 {
     match still_of(words) {
@@ -52,6 +53,7 @@ fn walk<R: Threads + Wait + Sync, S: Shelf, O: Sink, G: Gate + Sync>(
     gate: &G,
 ) -> u8
     ensures answer { GivesAnswer IsAny S.Shelf O.Sink words.now shelf.old out.old shelf.new out.new result }
+    ensures files_stay { S.files shelf.new ≡ S.files shelf.old }
     ensures asks { AsksNoMore IsAny S.Shelf O.Sink words.now shelf.old out.old shelf.new out.new }
 {
     match command_of(words) {
@@ -89,6 +91,9 @@ pub fn run_still<S: Shelf, O: Sink>(
     // Nor is a file that isn't there.
     ensures misses { HidesNoMiss S.Shelf O.Sink shelf.old out.old shelf.new out.new result }
 
+    // No file is changed.
+    ensures files_stay { S.files shelf.new ≡ S.files shelf.old }
+
     // No more is asked for than the files that the walk comes to let.
     ensures asks { AsksNoMore IsStill S.Shelf O.Sink words.now shelf.old out.old shelf.new out.new }
 {
@@ -111,6 +116,7 @@ pub fn run_with<R: Threads + Wait + Sync, S: Shelf, O: Sink, G: Gate + Sync>(
     ensures complete { IsWhole IsAny S.Shelf O.Sink words.now shelf.old out.old shelf.new out.new result }
     ensures failures { HidesNoFailure S.Shelf O.Sink shelf.old out.old shelf.new out.new result }
     ensures misses { HidesNoMiss S.Shelf O.Sink shelf.old out.old shelf.new out.new result }
+    ensures files_stay { S.files shelf.new ≡ S.files shelf.old }
     ensures asks { AsksNoMore IsAny S.Shelf O.Sink words.now shelf.old out.old shelf.new out.new }
 {
     walk(rt, alloc, words, shelf, out, gate)
@@ -130,6 +136,7 @@ pub fn run<R: Threads + Wait + Sync, S: Shelf, O: Sink>(
     ensures complete { IsWhole IsAny S.Shelf O.Sink words.now shelf.old out.old shelf.new out.new result }
     ensures failures { HidesNoFailure S.Shelf O.Sink shelf.old out.old shelf.new out.new result }
     ensures misses { HidesNoMiss S.Shelf O.Sink shelf.old out.old shelf.new out.new result }
+    ensures files_stay { S.files shelf.new ≡ S.files shelf.old }
     ensures asks { AsksNoMore IsAny S.Shelf O.Sink words.now shelf.old out.old shelf.new out.new }
 {
     run_with(rt, alloc, words, shelf, out, &NoGate)

@@ -1,6 +1,6 @@
 //! What a form gives: the walk over its files, and the delivery of the answer.
 
-ghost use Rattle.std.specs.Prelude.{◌≤◌, ◌+◌, ℕ, List};
+ghost use Rattle.std.specs.Prelude.{◌≡◌, ◌≤◌, ◌+◌, ℕ, List};
 ghost use Rattle.mptab_calls.specs.Forms.{IsInRange, files_of, form_of_still, form_of_tables};
 ghost use Rattle.mptab_calls.specs.Walk.{IsDueOf, IsDelivered, AsksOf, outside_of};
 
@@ -29,6 +29,7 @@ pub(crate) fn give<S: Shelf, O: Sink>(
     ensures due { (status : ℕ) × (text : List ℕ)
         × IsDueOf (S.files shelf.old) (outside_of S.Shelf O.Sink shelf.old out.old) (outside_of S.Shelf O.Sink shelf.new out.new) (form_of_still command.entry) status text
         × IsDelivered (outside_of S.Shelf O.Sink shelf.old out.old) (outside_of S.Shelf O.Sink shelf.new out.new) result status text }
+    ensures files_stay { S.files shelf.new ≡ S.files shelf.old }
     ensures asks { (n : ℕ) × (S.asked shelf.new ≤ S.asked shelf.old + n) × AsksOf (S.files shelf.old) (files_of (form_of_still command.entry)) n }
 {
     match command {
@@ -52,6 +53,7 @@ fn give_of_tables<S: Shelf, O: Sink>(
     ensures due { (status : ℕ) × (text : List ℕ)
         × IsDueOf (S.files shelf.old) (outside_of S.Shelf O.Sink shelf.old out.old) (outside_of S.Shelf O.Sink shelf.new out.new) (form_of_tables command.entry) status text
         × IsDelivered (outside_of S.Shelf O.Sink shelf.old out.old) (outside_of S.Shelf O.Sink shelf.new out.new) result status text }
+    ensures files_stay { S.files shelf.new ≡ S.files shelf.old }
     ensures asks { (n : ℕ) × (S.asked shelf.new ≤ S.asked shelf.old + n) × AsksOf (S.files shelf.old) (files_of (form_of_tables command.entry)) n }
 {
     let source = source_named(command);

@@ -72,6 +72,7 @@ fn give_of_madt<S: Shelf, O: Sink>(
     ensures due { (status : ℕ) × (text : List ℕ)
         × IsDueOf (S.files shelf.old) (outside_of S.Shelf O.Sink shelf.old out.old) (outside_of S.Shelf O.Sink shelf.new out.new) (Madtcmp files.entry.image.now files.entry.elcr files.entry.madt.now) status text
         × IsDelivered (outside_of S.Shelf O.Sink shelf.old out.old) (outside_of S.Shelf O.Sink shelf.new out.new) result status text }
+    ensures files_stay { S.files shelf.new ≡ S.files shelf.old }
     ensures asks { S.asked shelf.new ≤ S.asked shelf.old + most_of (S.files shelf.old) (AcpiTable files.entry.madt.now) }
 {
     match take_madt(alloc, files.madt, shelf) {
@@ -94,6 +95,7 @@ pub(crate) fn give_of_madtcmp<S: Shelf, O: Sink>(
     ensures due { (status : ℕ) × (text : List ℕ)
         × IsDueOf (S.files shelf.old) (outside_of S.Shelf O.Sink shelf.old out.old) (outside_of S.Shelf O.Sink shelf.new out.new) (Madtcmp files.entry.image.now files.entry.elcr files.entry.madt.now) status text
         × IsDelivered (outside_of S.Shelf O.Sink shelf.old out.old) (outside_of S.Shelf O.Sink shelf.new out.new) result status text }
+    ensures files_stay { S.files shelf.new ≡ S.files shelf.old }
     ensures asks { (n : ℕ) × (S.asked shelf.new ≤ S.asked shelf.old + n) × AsksOf (S.files shelf.old) (files_of (Madtcmp files.entry.image.now files.entry.elcr files.entry.madt.now)) n }
 {
     match take_image(alloc, files.image, shelf) {

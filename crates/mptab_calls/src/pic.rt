@@ -56,6 +56,7 @@ fn give_of_calls<S: Shelf, O: Sink>(
     ensures due { (status : ℕ) × (text : List ℕ)
         × IsDueOf (S.files shelf.old) (outside_of S.Shelf O.Sink shelf.old out.old) (outside_of S.Shelf O.Sink shelf.new out.new) (Pic files.entry.board.image.now files.entry.board.script.now files.entry.calls.now) status text
         × IsDelivered (outside_of S.Shelf O.Sink shelf.old out.old) (outside_of S.Shelf O.Sink shelf.new out.new) result status text }
+    ensures files_stay { S.files shelf.new ≡ S.files shelf.old }
     ensures asks { S.asked shelf.new ≤ S.asked shelf.old + most_of (S.files shelf.old) (Calls files.entry.calls.now) }
 {
     match take_calls(alloc, files.calls, shelf) {
@@ -78,6 +79,7 @@ pub(crate) fn give_of_pic<S: Shelf, O: Sink>(
     ensures due { (status : ℕ) × (text : List ℕ)
         × IsDueOf (S.files shelf.old) (outside_of S.Shelf O.Sink shelf.old out.old) (outside_of S.Shelf O.Sink shelf.new out.new) (Pic files.entry.board.image.now files.entry.board.script.now files.entry.calls.now) status text
         × IsDelivered (outside_of S.Shelf O.Sink shelf.old out.old) (outside_of S.Shelf O.Sink shelf.new out.new) result status text }
+    ensures files_stay { S.files shelf.new ≡ S.files shelf.old }
     ensures asks { (n : ℕ) × (S.asked shelf.new ≤ S.asked shelf.old + n) × AsksOf (S.files shelf.old) (files_of (Pic files.entry.board.image.now files.entry.board.script.now files.entry.calls.now)) n }
 {
     match take_described(alloc, files.board, shelf) {

@@ -46,6 +46,7 @@ fn give_of_pir<S: Shelf, O: Sink>(
     ensures due { (status : ℕ) × (text : List ℕ)
         × IsDueOf (S.files shelf.old) (outside_of S.Shelf O.Sink shelf.old out.old) (outside_of S.Shelf O.Sink shelf.new out.new) (Pircmp files.entry.image.now files.entry.table.now) status text
         × IsDelivered (outside_of S.Shelf O.Sink shelf.old out.old) (outside_of S.Shelf O.Sink shelf.new out.new) result status text }
+    ensures files_stay { S.files shelf.new ≡ S.files shelf.old }
     ensures asks { S.asked shelf.new ≤ S.asked shelf.old + most_of (S.files shelf.old) (RoutingTable files.entry.table.now) }
 {
     match take_pir(alloc, files.table, shelf) {
@@ -67,6 +68,7 @@ pub(crate) fn give_of_pircmp<S: Shelf, O: Sink>(
     ensures due { (status : ℕ) × (text : List ℕ)
         × IsDueOf (S.files shelf.old) (outside_of S.Shelf O.Sink shelf.old out.old) (outside_of S.Shelf O.Sink shelf.new out.new) (Pircmp files.entry.image.now files.entry.table.now) status text
         × IsDelivered (outside_of S.Shelf O.Sink shelf.old out.old) (outside_of S.Shelf O.Sink shelf.new out.new) result status text }
+    ensures files_stay { S.files shelf.new ≡ S.files shelf.old }
     ensures asks { (n : ℕ) × (S.asked shelf.new ≤ S.asked shelf.old + n) × AsksOf (S.files shelf.old) (files_of (Pircmp files.entry.image.now files.entry.table.now)) n }
 {
     match take_image(alloc, files.image, shelf) {

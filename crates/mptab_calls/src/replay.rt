@@ -57,6 +57,7 @@ fn give_of_report<S: Shelf, O: Sink>(
     ensures due { (status : ℕ) × (text : List ℕ)
         × IsDueOf (S.files shelf.old) (outside_of S.Shelf O.Sink shelf.old out.old) (outside_of S.Shelf O.Sink shelf.new out.new) (Replay files.entry.board.image.now files.entry.board.script.now files.entry.report.now) status text
         × IsDelivered (outside_of S.Shelf O.Sink shelf.old out.old) (outside_of S.Shelf O.Sink shelf.new out.new) result status text }
+    ensures files_stay { S.files shelf.new ≡ S.files shelf.old }
     ensures asks { S.asked shelf.new ≤ S.asked shelf.old + most_of (S.files shelf.old) (AReport files.entry.report.now) }
 {
     match take_report(alloc, files.report, shelf) {
@@ -78,6 +79,7 @@ pub(crate) fn give_of_replay<S: Shelf, O: Sink>(
     ensures due { (status : ℕ) × (text : List ℕ)
         × IsDueOf (S.files shelf.old) (outside_of S.Shelf O.Sink shelf.old out.old) (outside_of S.Shelf O.Sink shelf.new out.new) (Replay files.entry.board.image.now files.entry.board.script.now files.entry.report.now) status text
         × IsDelivered (outside_of S.Shelf O.Sink shelf.old out.old) (outside_of S.Shelf O.Sink shelf.new out.new) result status text }
+    ensures files_stay { S.files shelf.new ≡ S.files shelf.old }
     ensures asks { (n : ℕ) × (S.asked shelf.new ≤ S.asked shelf.old + n) × AsksOf (S.files shelf.old) (files_of (Replay files.entry.board.image.now files.entry.board.script.now files.entry.report.now)) n }
 {
     match take_board(alloc, files.board, shelf) {
