@@ -4,7 +4,10 @@ ghost use Rattle.std.specs.Prelude.{◌≡◌, ◌+◌, ◌*◌, ◌≤◌, ◌<
 ghost use Rattle.mpb_spec.specs.Plan.{plan_size, device_program};
 ghost use Rattle.mpb_spec.specs.Room.{room, is_pulse, is_high, is_write, is_eoi};
 
-use mpb_spec::{Config, CpuConfig, DevWord, Op};
+use mpb_spec::{Config, CpuConfig, DevWord, Op, PINS};
+
+// how many pins each I/O APIC has
+const PINS_OF_EACH: u64 = PINS as u64;
 
 // how many ops there are, how many of them write a register of an I/O APIC, how many end an interrupt
 #[derive(Clone, Copy)]
@@ -176,7 +179,7 @@ fn sends_by_ends(ios: u64, ends: u64) -> u64
     ensures sends { result ≡ 24 * ios * ends }
     ensures most { result ≤ 96 * ends }
 {
-    let pins = 24 * ios;
+    let pins = PINS_OF_EACH * ios;
     pins * ends
 }
 

@@ -3,6 +3,17 @@
 ghost use Rattle.std.specs.Prelude.{◌≡◌, ◌≤◌, length};
 ghost use Rattle.mpb_words.specs.Words.{cpu_name_of, cpu_limits, is_in_range, device_name_of, device_limits};
 
+use mpb_spec::{CLUSTER, FLAT, LONGEST_PAUSE, MOST_IO_APICS, PINS};
+
+// the greatest number that is a byte
+const LAST_BYTE: u32 = 255;
+
+// the last place of an I/O APIC
+const LAST_PLACE: u32 = MOST_IO_APICS as u32 - 1;
+
+// the last pin of an I/O APIC
+const LAST_PIN: u32 = PINS as u32 - 1;
+
 // the words of a processor
 #[derive(Clone, Copy)]
 pub(crate) enum CpuName {
@@ -69,14 +80,14 @@ pub(crate) fn cpu_limits(name: CpuName) -> &'static [u32]
     ensures few { length result.now ≤ 2 }
 {
     match name {
-        CpuName::Ipi | CpuName::Ipl => &[255, 255],
-        CpuName::Nmi | CpuName::Tpr | CpuName::Ldr => &[255],
-        CpuName::Dfr => &[15],
+        CpuName::Ipi | CpuName::Ipl => &[LAST_BYTE, LAST_BYTE],
+        CpuName::Nmi | CpuName::Tpr | CpuName::Ldr => &[LAST_BYTE],
+        CpuName::Dfr => &[FLAT as u32],
         CpuName::Take | CpuName::Poll | CpuName::Eoi => &[],
-        CpuName::IoSel => &[3, 255],
-        CpuName::IoWin => &[3, 0xFFFF_FFFF],
-        CpuName::IoRead => &[3],
-        CpuName::Pause => &[1_000_000],
+        CpuName::IoSel => &[LAST_PLACE, LAST_BYTE],
+        CpuName::IoWin => &[LAST_PLACE, u32::MAX],
+        CpuName::IoRead => &[LAST_PLACE],
+        CpuName::Pause => &[LONGEST_PAUSE],
     }
 }
 
@@ -85,7 +96,7 @@ pub(crate) fn is_in_range(name: CpuName, a: u32) -> bool
     ensures { result ≡ is_in_range name a }
 {
     match name {
-        CpuName::Dfr => a == 0 || a == 15,
+        CpuName::Dfr => a == CLUSTER as u32 || a == FLAT as u32,
         _ => true,
     }
 }
@@ -96,6 +107,6 @@ pub(crate) fn device_limits(name: DeviceName) -> &'static [u32]
     ensures few { length result.now ≤ 2 }
 {
     match name {
-        DeviceName::Pulse | DeviceName::High | DeviceName::Low => &[3, 23],
+        DeviceName::Pulse | DeviceName::High | DeviceName::Low => &[LAST_PLACE, LAST_PIN],
     }
 }
