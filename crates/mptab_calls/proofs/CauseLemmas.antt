@@ -1,5 +1,5 @@
 -- What follows from an answer that was given: each status's cause, that it comes whole, and that no failure is hidden.
-use Rattle.std.proofs.Common.{◌≡◌, ℕ, List, Option, sym, subst, ◌∙◌, inl, inr}
+use Rattle.std.proofs.Common.{◌≡◌, ℕ, ◌⊎◌, List, Option, sym, subst, ◌∙◌, inl, inr}
 use Rattle.mpt_base.specs.Outside.{Files}
 use Rattle.mptab_calls.specs.Forms.{Form, Boot, IsForm, IsStill, IsAny, form_of_still, form_of_tables}
 use Rattle.mptab_calls.specs.declared.words.StillCommand.{StillCommand}
