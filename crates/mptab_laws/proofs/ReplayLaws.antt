@@ -62,8 +62,8 @@ abbrev IsLegalText : Plan → List ℕ → Type 0
 IsLegalText c text = (r : AReport) × IsReportOf r text × IsVerdict c r Legal × (length text ≤ 268435456)
 
 legal_text : (c : Plan) (text : List ℕ) → IsConfig c → HasOpValues c → plan_size c < 2 ^ 32 → room c < 850000 → sum_by length c.devices ≤ 8192 → IsRunText c text → IsLegalText c text
-legal_text c text is v few room_small words (journal, logs, complete, accounts, e) =
-    let short : length (report_of c journal logs) ≤ 268435456 = report_short c journal logs is v room_small words complete.legal accounts.pulses in
+legal_text c text is v few roomy words (journal, logs, complete, accounts, e) =
+    let short : length (report_of c journal logs) ≤ 268435456 = report_short c journal logs is v roomy words complete.legal accounts.pulses in
     let read : IsReportOf (shown_report c journal logs) (report_of c journal logs) = read_back c journal logs is v few complete.legal accounts.pulses in
     (shown_report c journal logs, subst (IsReportOf (shown_report c journal logs)) (sym e) read, complete_is_legal c journal logs is complete accounts, subst (λ (b : List ℕ). length b ≤ 268435456) (sym e) short)
 
