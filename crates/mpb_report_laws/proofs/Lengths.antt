@@ -1,8 +1,11 @@
 -- How long a report is: no entry's line has more than 256 bytes, no pulse more than 16, no line of the state more than 4,096.
-use Rattle.std.proofs.Common.{◌≡◌, ℕ, zero, suc, ◌+◌, ◌*◌, ◌/◌, ◌%◌, ◌^◌, ◌<◌, ◌≤◌, ◌==◌, Bool, true, false, cond, List, [], ◌∷◌, ◌++◌, length, length-append, map, sum_by, nat_le, refl, subst, sym, arith}
+use Rattle.std.proofs.Common.{◌≡◌, ℕ, zero, suc, ◌+◌, ◌*◌, ◌/◌, ◌%◌, ◌^◌, ◌<◌, ◌≤◌, ◌==◌, Bool, true, false, cond, List, [], ◌∷◌, ◌++◌, length, length-append, map, filter, sum_by, nat_le, refl, ap, ◌∙◌, subst, sym, arith}
 use Rattle.std.specs.Prelude.{codes, decimal}
-use Rattle.std.specs.List.{AllByRecursion, concat, flat_map}
-use Rattle.std.proofs.lemmas.Bool.{leb-le}
+use Rattle.std.specs.List.{AllByRecursion, concat, flat_map, filter_map, range_with_len}
+use Rattle.std.proofs.lemmas.Bool.{leb-true}
+use Rattle.std.proofs.lemmas.List.Sums.{sum_by-cons}
+use Rattle.std.proofs.lemmas.List.FromFn.{length-range_with_len}
+use Rattle.std.proofs.lemmas.List.{length-map}
 use Rattle.std.proofs.lemmas.Fmt.{length-decimal-le}
 use Rattle.mpt_listing.specs.Listing.{line, hex, hex_digit}
 use Rattle.mpb_spec.specs.declared.agent.Agent.{Agent}
@@ -16,10 +19,32 @@ use Rattle.mpb_spec.specs.declared.entry.What.TheVariants as what
 use Rattle.mpb_spec.specs.declared.pulse.Pulse.{Pulse}
 use Rattle.mpb_spec.specs.declared.pulse.Hit.{Hit}
 use Rattle.mpb_spec.specs.declared.pulse.Hit.TheVariants.{New, Merged}
-use Rattle.mpb_spec.specs.Pulses.{IsInRange}
+use Rattle.mpb_spec.specs.Pulses.{IsInRange, pulse_of, pulses_in, pulses_of}
+use Rattle.mpb_spec.specs.declared.config.DevWord.{DevWord}
+use Rattle.mpb_spec.specs.declared.config.DevWord.TheVariants as word
+use Rattle.mpb_spec.specs.declared.config.Life.{Life}
+use Rattle.mpb_spec.specs.declared.config.Life.TheVariants as life
+use Rattle.mpb_spec.specs.declared.config.Imcr.{Imcr}
+use Rattle.mpb_spec.specs.declared.config.Imcr.TheVariants as imcr
+use Rattle.mpb_spec.specs.LocalApic.{LocalApic}
+use Rattle.mpb_spec.specs.IoApic.{mask_by}
+use Rattle.mpb_spec.specs.Numbers.{has}
+use Rattle.mpb_spec.specs.State.{Processor, Place, BoardState}
+use Rattle.mpb_spec.specs.Plan.{Plan, initial_state_of}
+use Rattle.mpb_spec.specs.Configs.{IsConfig}
+use Rattle.mpb_spec.specs.Journal.{IsLegal, final_state_of}
+use Rattle.mpb_spec.specs.Room.{room}
+use Rattle.mpb_laws.proofs.RoomSum.{within_room}
 use Rattle.mpb_report.specs.EntryLines.{agent_text, op_text, trigger_text, what_text, has_target, outcome_text, further_outcome, entry_line}
 use Rattle.mpb_report.specs.LogLines.{hit_text, pulse_text, pulses_text, log_line}
 use Rattle.mpb_report.specs.Numbered.{numbered}
+use Rattle.mpb_report.specs.StateLines.{imcr_text, imcr_line, life_text, members_below, members, further_vector, vectors_text, registers_text, processor_line, place_line, state_lines}
+use Rattle.mpb_report.specs.Report.{title_line, count_line, end_line, journal_lines, report_lines, report_of}
+use Rattle.mpb_report_parse.specs.Reports.{HasReport, shown_report}
+use Rattle.mpb_report_laws.specs.Values.{HasOpValues}
+use Rattle.mpb_report_laws.proofs.Fitting.{IsFit}
+use Rattle.mpb_report_laws.proofs.Outcomes.{end_fits}
+use Rattle.mpb_report_laws.proofs.Reported.{opening_fits, shown_right}
 use Rattle.mpb_report_line.specs.Values.{IsRightAgent, IsRightOp, IsRightOutcome, IsRightEntry, IsRightLog}
 
 -- ---- parts
@@ -34,18 +59,18 @@ hex_short k n = let e : length (hex k n) ≡ k = hex_long k n in omega arith
 
 -- a text that is given has at most so many bytes
 short : (a : List ℕ) (n : ℕ) → nat_le (length a) n ≡ true → length a ≤ n
-short a n e = leb-le (length a) n e
+short a n e = leb-true (length a) n e
 
 two : (n m : ℕ) (a b : List ℕ) → length a ≤ n → length b ≤ m → length (a ++ b) ≤ n + m
 two n m a b p q = omega (arith, length-append a b, p, q)
 
 -- the parts of a text have at most so many bytes
-AreShort : List ℕ → List (List ℕ) → Type 0
+abbrev AreShort : List ℕ → List (List ℕ) → Type 0
 AreShort [] [] = Unit {0}
 AreShort (n ∷ ns) (a ∷ as_) = (length a ≤ n) × AreShort ns as_
 AreShort ns as_ = ⊥
 
-total : List ℕ → ℕ
+abbrev total : List ℕ → ℕ
 total [] = 0
 total (n ∷ ns) = n + total ns
 
@@ -216,4 +241,130 @@ logs_short d [] l h = omega arith
 logs_short d (log ∷ logs) l h =
     let here : length (log_line d log) ≤ length log * 16 + 14 = log_short d log (omega (arith, l)) h.0 in
     let rest : length (concat (numbered log_line (d + 1) logs)) ≤ sum_by length logs * 16 + length logs * 14 = logs_short (d + 1) logs (omega (arith, l)) h.1 in
-    omega (arith, length-append (log_line d log) (concat (numbered log_line (d + 1) logs)), here, rest)
+    let both : length (concat (numbered log_line d (log ∷ logs))) ≡ length (log_line d log) + length (concat (numbered log_line (d + 1) logs)) = length-append (log_line d log) (concat (numbered log_line (d + 1) logs)) in
+    let sum : sum_by length (log ∷ logs) ≡ length log + sum_by length logs = sum_by-cons (length {A = Pulse × Hit}) log logs in
+    omega (arith, both, sum, here, rest)
+
+-- ---- the state
+
+filter_short : (f : ℕ → Bool) (xs : List ℕ) → length (filter f xs) ≤ length xs
+filter_short f [] = omega arith
+filter_short f (x ∷ xs) = go (f x) (filter_short f xs)
+  where
+    go : (b : Bool) → length (filter f xs) ≤ length xs → length (cond {A = List ℕ} b (x ∷ filter f xs) (filter f xs)) ≤ suc (length xs)
+    go true h = omega (arith, h)
+    go false h = omega (arith, h)
+
+members_short : (xs : List ℕ) → length (members xs) ≤ 256
+unfolding members members_below
+members_short xs = omega (arith, filter_short (λ v. has v xs) (range_with_len 0 256), length-range_with_len 0 256)
+
+vector_short : (v : ℕ) → length (further_vector v) ≤ 3
+vector_short v = two 1 2 (codes ",") (hex 2 v) (short (codes ",") 1 refl) (hex_short 2 v)
+
+vectors_short : (vs : List ℕ) → length (vectors_text vs) ≤ length vs * 3 + 1
+vectors_short [] = short (codes "-") 1 refl
+vectors_short (v ∷ vs) = omega (arith, length-append (hex 2 v) (flat_map further_vector vs), hex_short 2 v, flat_short further_vector 3 vs vector_short)
+
+register_short : (xs : List ℕ) → length (vectors_text (members xs)) ≤ 769
+register_short xs = omega (arith, vectors_short (members xs), members_short xs)
+
+registers_short : (a : LocalApic) → length (registers_text a) ≤ 2322
+registers_short a =
+    concat_short (5 ∷ 769 ∷ 5 ∷ 769 ∷ 5 ∷ 769 ∷ []) (codes " irr " ∷ vectors_text (members a.irr) ∷ codes " isr " ∷ vectors_text (members a.isr) ∷ codes " tmr " ∷ vectors_text (members a.tmr) ∷ [])
+    (short (codes " irr ") 5 refl, (register_short a.irr, (short (codes " isr ") 5 refl, (register_short a.isr, (short (codes " tmr ") 5 refl, (register_short a.tmr, tt))))))
+
+life_short : (l : Life) → length (life_text l) ≤ 10
+life_short life.Asleep = short (codes "asleep") 10 refl
+life_short life.Waiting = short (codes "waiting") 10 refl
+life_short (life.Started page) = concat_short (8 ∷ 2 ∷ []) (codes "started." ∷ hex 2 page ∷ []) (short (codes "started.") 8 refl, (hex_short 2 page, tt))
+life_short life.First = short (codes "first") 10 refl
+
+processor_short : (p : Processor) → length (processor_line p) ≤ 4096
+processor_short p =
+    let whole : length (processor_line p) ≤ 2353 = line_short (10 ∷ 2 ∷ 1 ∷ 10 ∷ 5 ∷ 2 ∷ 2322 ∷ [])
+    (codes "state cpu " ∷ hex 2 p.id ∷ codes " " ∷ life_text p.life ∷ codes " tpr " ∷ hex 2 p.apic.tpr ∷ registers_text p.apic ∷ [])
+    (short (codes "state cpu ") 10 refl, (hex_short 2 p.id, (short (codes " ") 1 refl, (life_short p.life, (short (codes " tpr ") 5 refl, (hex_short 2 p.apic.tpr, (registers_short p.apic, tt)))))))
+    in
+    omega (arith, whole)
+
+place_short : (a : ℕ) (p : Place) → a < 10 → length (place_line a p) ≤ 64
+place_short a p l =
+    let masks : (n : ℕ) → length (hex 6 n) ≤ 6 = hex_short 6 in
+    let whole : length (place_line a p) ≤ 48 = line_short (9 ∷ 1 ∷ 6 ∷ 6 ∷ 5 ∷ 6 ∷ 8 ∷ 6 ∷ [])
+    (codes "state io " ∷ decimal a ∷ codes " line " ∷ hex 6 (mask_by (λ q. q.line) p.chip.pins) ∷ codes " due " ∷ hex 6 (mask_by (λ q. q.due) p.chip.pins) ∷ codes " remote " ∷ hex 6 (mask_by (λ q. q.remote) p.chip.pins) ∷ [])
+    (short (codes "state io ") 9 refl, (digit a l, (short (codes " line ") 6 refl, (masks (mask_by (λ q. q.line) p.chip.pins), (short (codes " due ") 5 refl, (masks (mask_by (λ q. q.due) p.chip.pins), (short (codes " remote ") 8 refl, (masks (mask_by (λ q. q.remote) p.chip.pins), tt))))))))
+    in
+    omega (arith, whole)
+
+imcr_short : (r : Imcr) → length (imcr_line r) ≤ 16
+imcr_short imcr.Absent = short (imcr_line imcr.Absent) 16 refl
+imcr_short imcr.Pic = short (imcr_line imcr.Pic) 16 refl
+imcr_short imcr.Apic = short (imcr_line imcr.Apic) 16 refl
+
+concat_long : (xs ys : List (List ℕ)) → length (concat (xs ++ ys)) ≡ length (concat xs) + length (concat ys)
+concat_long [] ys = omega arith
+concat_long (x ∷ xs) ys = omega (arith, length-append x (concat (xs ++ ys)), length-append x (concat xs), concat_long xs ys)
+
+processors_short : (ps : List Processor) → length (concat (map processor_line ps)) ≤ length ps * 4096
+processors_short [] = omega arith
+processors_short (p ∷ ps) = omega (arith, length-append (processor_line p) (concat (map processor_line ps)), processor_short p, processors_short ps)
+
+places_short : (a : ℕ) (ps : List Place) → a + length ps ≤ 10 → length (concat (numbered place_line a ps)) ≤ length ps * 64
+places_short a [] l = omega arith
+places_short a (p ∷ ps) l =
+    let here : length (place_line a p) ≤ 64 = place_short a p (omega (arith, l)) in
+    let rest : length (concat (numbered place_line (a + 1) ps)) ≤ length ps * 64 = places_short (a + 1) ps (omega (arith, l)) in
+    omega (arith, length-append (place_line a p) (concat (numbered place_line (a + 1) ps)), here, rest)
+
+state_short : (s : BoardState) → length s.processors ≤ 8 → length s.places ≤ 4 → length (concat (state_lines s)) ≤ 33040
+state_short s few few_places =
+    let cpus : List (List ℕ) = map processor_line s.processors in
+    let ios : List (List ℕ) = numbered place_line 0 s.places in
+    let first : length (imcr_line s.imcr) ≤ 16 = imcr_short s.imcr in
+    let all : length (concat (cpus ++ ios)) ≡ length (concat cpus) + length (concat ios) = concat_long cpus ios in
+    let of_cpus : length (concat cpus) ≤ length s.processors * 4096 = processors_short s.processors in
+    let of_ios : length (concat ios) ≤ length s.places * 64 = places_short 0 s.places (omega (arith, few_places)) in
+    let whole : length (concat (state_lines s)) ≡ length (imcr_line s.imcr) + length (concat (cpus ++ ios)) = length-append (imcr_line s.imcr) (concat (cpus ++ ios)) in
+    omega (arith, first, all, of_cpus, of_ios, whole, few, few_places)
+
+-- ---- the whole
+
+-- a device has no more pulses than words
+pulses_few : (words : List DevWord) → length (pulses_in words) ≤ length words
+pulses_few [] = omega arith
+pulses_few (word.Pulse a pin ∷ words) = omega (arith, pulses_few words)
+pulses_few (word.High a pin ∷ words) = omega (arith, pulses_few words)
+pulses_few (word.Low a pin ∷ words) = omega (arith, pulses_few words)
+
+plans_few : (devices : List (List DevWord)) → sum_by length (map pulses_in devices) ≤ sum_by length devices
+plans_few [] = omega arith
+plans_few (words ∷ devices) = rw (sum_by-cons (length {A = Pulse}) (pulses_in words) (map pulses_in devices), sum_by-cons (length {A = DevWord}) words devices) (omega (arith, pulses_few words, plans_few devices))
+
+logs_long : (logs : List (List (Pulse × Hit))) → sum_by length (map pulses_of logs) ≡ sum_by length logs
+logs_long [] = refl
+logs_long (log ∷ logs) = rw (sum_by-cons (length {A = Pulse}) (pulses_of log) (map pulses_of logs), sum_by-cons (length {A = Pulse × Hit}) log logs) (omega (arith, length-map log (λ (x : Pulse × Hit). x.0), logs_long logs))
+
+text_short : (c : Plan) (journal : List Entry) (logs : List (List (Pulse × Hit))) → length journal < 850000 → sum_by length logs ≤ 8192 → AllByRecursion IsRightEntry journal → length logs ≤ 4 → AllByRecursion IsRightLog logs → length (final_state_of c journal).processors ≤ 8 → length (final_state_of c journal).places ≤ 4 → length (report_of c journal logs) ≤ 268435456
+text_short c journal logs few pulses entries few_logs right processors places =
+    let rest : List (List ℕ) = numbered log_line 0 logs ++ (state_lines (final_state_of c journal) ++ end_line ∷ []) in
+    let title : length title_line ≤ 9 = short title_line 9 refl in
+    let last : length (concat (end_line ∷ [])) ≤ 4 = short (concat (end_line ∷ [])) 4 refl in
+    let count : length (count_line (length journal)) ≤ 19 = line_short (8 ∷ 10 ∷ []) (codes "entries " ∷ decimal (length journal) ∷ []) (short (codes "entries ") 8 refl, (length-decimal-le 10 (length journal) (omega arith) (omega (arith, few)) (omega (arith, few)), tt)) in
+    let lines : length (concat (numbered entry_line 0 journal)) ≤ length journal * 256 = entries_short 0 journal (omega (arith, few)) entries in
+    let of_logs : length (concat (numbered log_line 0 logs)) ≤ sum_by length logs * 16 + length logs * 14 = logs_short 0 logs (omega (arith, few_logs)) right in
+    let of_state : length (concat (state_lines (final_state_of c journal))) ≤ 33040 = state_short (final_state_of c journal) processors places in
+    let whole : length (concat (journal_lines journal ++ rest)) ≡ length (concat (journal_lines journal)) + length (concat rest) = concat_long (journal_lines journal) rest in
+    let head : length (concat (journal_lines journal)) ≡ length title_line + length (concat (count_line (length journal) ∷ numbered entry_line 0 journal)) = length-append title_line (concat (count_line (length journal) ∷ numbered entry_line 0 journal)) in
+    let next : length (concat (count_line (length journal) ∷ numbered entry_line 0 journal)) ≡ length (count_line (length journal)) + length (concat (numbered entry_line 0 journal)) = length-append (count_line (length journal)) (concat (numbered entry_line 0 journal)) in
+    let behind : length (concat rest) ≡ length (concat (numbered log_line 0 logs)) + length (concat (state_lines (final_state_of c journal) ++ end_line ∷ [])) = concat_long (numbered log_line 0 logs) (state_lines (final_state_of c journal) ++ end_line ∷ []) in
+    let ends : length (concat (state_lines (final_state_of c journal) ++ end_line ∷ [])) ≡ length (concat (state_lines (final_state_of c journal))) + length (concat (end_line ∷ [])) = concat_long (state_lines (final_state_of c journal)) (end_line ∷ []) in
+    omega (arith, title, last, count, lines, of_logs, of_state, whole, head, next, behind, ends, few, pulses, few_logs)
+
+pub report_short : (c : Plan) (journal : List Entry) (logs : List (List (Pulse × Hit))) → IsConfig c → HasOpValues c → room c < 850000 → sum_by length c.devices ≤ 8192 → IsLegal c journal → map pulses_of logs ≡ map pulses_in c.devices → length (report_of c journal logs) ≤ 268435456
+report_short c journal logs is v small words legal e =
+    let right : HasReport (shown_report c journal logs) = shown_right c journal logs is v legal e in
+    let fits : IsFit (final_state_of c journal) = end_fits (initial_state_of c) journal (opening_fits c is v) legal in
+    let within : length journal ≤ room c = within_room c journal is legal in
+    let same : sum_by length (map pulses_of logs) ≡ sum_by length (map pulses_in c.devices) = ap (λ (l : List (List Pulse)). sum_by length l) e in
+    text_short c journal logs (omega (arith, within, small)) (omega (arith, same, logs_long logs, plans_few c.devices, words)) right.entries right.logs.0 right.logs.1 fits.few fits.few_places

@@ -4,3 +4,4 @@ pub mod Fitting
 pub mod Outcomes
 pub mod Reported
 pub mod BoardOps
+pub mod Lengths

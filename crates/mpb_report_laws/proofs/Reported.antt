@@ -73,8 +73,8 @@ places-long : (devices : List (List DevWord)) (a : ℕ) (ids : List ℕ) → len
 places-long devices a [] = refl
 places-long devices a (id ∷ ids) = ap suc (places-long devices (a + 1) ids)
 
-opening-fits : (c : Plan) → IsConfig c → HasOpValues c → IsFit (initial_state_of c)
-opening-fits c is v =
+pub opening_fits : (c : Plan) → IsConfig c → HasOpValues c → IsFit (initial_state_of c)
+opening_fits c is v =
     let few : length c.cpus ≤ 8 = is.few in
     let few_ios : length c.ios ≤ 4 = is.few_ios in
     let few_devices : length c.devices ≤ 4 = is.few_devices in
@@ -146,10 +146,10 @@ logs-of c logs is e =
     (omega arith, logs-right logs (subst (AllByRecursion (AllByRecursion (IsInRange 4))) (sym e) planned))
 
 -- the report of a legal run has a text
-shown-right : (c : Plan) (journal : List Entry) (logs : List (List (Pulse × Hit))) → IsConfig c → HasOpValues c → IsLegal c journal → map pulses_of logs ≡ map pulses_in c.devices → HasReport (shown_report c journal logs)
-shown-right c journal logs is v legal e =
+pub shown_right : (c : Plan) (journal : List Entry) (logs : List (List (Pulse × Hit))) → IsConfig c → HasOpValues c → IsLegal c journal → map pulses_of logs ≡ map pulses_in c.devices → HasReport (shown_report c journal logs)
+shown_right c journal logs is v legal e =
     let s : BoardState = final_state_of c journal in
-    let first : IsFit (initial_state_of c) = opening-fits c is v in
+    let first : IsFit (initial_state_of c) = opening_fits c is v in
     let fits : IsFit s = end_fits (initial_state_of c) journal first legal in
     let few : length s.places ≤ 4 = fits.few_places in
     let n : length (map shown_io s.places) ≡ length s.places = length-map s.places shown_io in
@@ -167,7 +167,7 @@ short c journal is small legal =
     omega arith
 
 pub read_back : (c : Plan) (journal : List Entry) (logs : List (List (Pulse × Hit))) → IsConfig c → HasOpValues c → plan_size c < 2 ^ 32 → IsLegal c journal → map pulses_of logs ≡ map pulses_in c.devices → IsReportOf (shown_report c journal logs) (report_of c journal logs)
-read_back c journal logs is v small legal e = (shown-right c journal logs is v legal e, report_shown c journal logs (short c journal is small legal))
+read_back c journal logs is v small legal e = (shown_right c journal logs is v legal e, report_shown c journal logs (short c journal is small legal))
 
 -- two runs of one text have one journal and the same logs
 pub one_run : (c d : Plan) (journal other : List Entry) (logs others : List (List (Pulse × Hit))) (text : List ℕ) → IsReportOf (shown_report c journal logs) text → IsReportOf (shown_report d other others) text → (journal ≡ other) × (logs ≡ others)

@@ -1,12 +1,13 @@
 //! Laws of the definitions of reports. Each is the contract of a function that does nothing.
 
-ghost use Rattle.std.specs.Prelude.{◌≡◌, ◌<◌, ◌^◌, ◌⊎◌, ℕ, List, length, map, None};
+ghost use Rattle.std.specs.Prelude.{◌≡◌, ◌<◌, ◌^◌, ◌⊎◌, ◌≤◌, ℕ, List, length, map, sum_by, None};
 ghost use Rattle.mpt_route.specs.declared.platform.Platform.{Platform as APlatform};
 ghost use Rattle.mpt_route.specs.Routes.{routes_of};
 ghost use Rattle.mpb_spec.specs.declared.entry.Entry.{Entry as EntryOf};
 ghost use Rattle.mpb_spec.specs.Configs.{IsConfig};
 ghost use Rattle.mpb_spec.specs.Journal.{IsLegal, IsComplete};
 ghost use Rattle.mpb_spec.specs.Plan.{Plan, plan_size};
+ghost use Rattle.mpb_spec.specs.Room.{room};
 ghost use Rattle.mpb_spec.specs.declared.pulse.Pulse.{Pulse as PulseOf};
 ghost use Rattle.mpb_spec.specs.declared.pulse.Hit.{Hit as HitOf};
 ghost use Rattle.mpb_spec.specs.Pulses.{pulses_of};
@@ -45,6 +46,12 @@ pub fn boards_have_op_values()
 pub fn runs_are_read_back()
     ensures { (c : Plan) (journal : List EntryOf) (logs : List (List (PulseOf × HitOf))) → IsConfig c → HasOpValues c → plan_size c < 2 ^ 32
         → IsLegal c journal → map pulses_of logs ≡ map pulses_in c.devices → IsReportOf (shown_report c journal logs) (report_of c journal logs) }
+{}
+
+/// It has at most 256 MiB, where the config has room below 850,000 and its devices have no more than 8,192 words.
+pub fn runs_are_short()
+    ensures { (c : Plan) (journal : List EntryOf) (logs : List (List (PulseOf × HitOf))) → IsConfig c → HasOpValues c → room c < 850000 → sum_by length c.devices ≤ 8192
+        → IsLegal c journal → map pulses_of logs ≡ map pulses_in c.devices → length (report_of c journal logs) ≤ 268435456 }
 {}
 
 /// The report of a complete run that accounts for all pulses is legal.

@@ -5,5 +5,5 @@ mod laws;
 
 pub use laws::{
     boards_have_op_values, complete_runs_are_legal, report_has_one_run, runs_are_read_back,
-    texts_are_judged, traces_are_legal,
+    runs_are_short, texts_are_judged, traces_are_legal,
 };

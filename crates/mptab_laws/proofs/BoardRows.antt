@@ -1,5 +1,5 @@
 -- What the laws say of boards: the tables of an image of bytes and a script have one trace, and some boot.
-use Rattle.std.proofs.Common.{◌≡◌, ℕ, ◌<◌, ◌^◌, Bool, true, false, cond, List, [], ◌∷◌, filter, filter_map, map, count_by, None, refl, sym, ap, ◌∙◌, arith}
+use Rattle.std.proofs.Common.{◌≡◌, ℕ, ◌<◌, ◌≤◌, ◌^◌, length, sum_by, Bool, true, false, cond, List, [], ◌∷◌, filter, filter_map, map, count_by, None, refl, sym, ap, ◌∙◌, arith}
 use Rattle.std.specs.List.{AllByRecursion}
 use Rattle.mpt_spec.specs.declared.entry.Processor.{Processor}
 use Rattle.mpt_spec.specs.declared.entry.Base.{Base}
@@ -12,10 +12,11 @@ use Rattle.mpt_route.specs.Platform.{platform_of, platform_of_body, processor_in
 use Rattle.mpb_spec.specs.declared.entry.Entry.{Entry}
 use Rattle.mpb_spec.specs.Plan.{Plan, plan_size}
 use Rattle.mpb_spec.specs.Configs.{IsConfig, IsStartableAt}
+use Rattle.mpb_spec.specs.Room.{room}
 use Rattle.mpb_script.specs.declared.script.Script.{Script}
-use Rattle.mpb_script.specs.Values.{HasScriptValues}
+use Rattle.mpb_script.specs.Values.{HasScriptValues, words_in}
 use Rattle.mpb_setup.specs.Boot.{is_enabled}
-use Rattle.mpb_setup.specs.Board.{enabled_ids}
+use Rattle.mpb_setup.specs.Board.{enabled_ids, board_config_of}
 use Rattle.mpb_spec.specs.Numbers.{AreBytes}
 use Rattle.mpb_setup.proofs.BoardLemmas.{config_right}
 use Rattle.mpb_setup.proofs.StartLemmas.{config_starts}
@@ -72,6 +73,13 @@ module _ (tables : Tables) (s : Script) (values : IsTablesValue tables) (words :
 
   startable : IsStartableAt s.page (board_of tables s)
   startable = config_starts (platform_of tables) s sound words
+
+  pub room_small : room (board_of tables s) < 850000
+  room_small = (config_small (platform_of tables) s sound words (bytes_enabled tables values)).room
+
+  pub few_words : sum_by length (board_of tables s).devices ≤ 8192
+  unfolding board_config_of
+  few_words = let few : words_in s ≤ 8192 = words.few_words in let devices : sum_by length s.devices ≤ 8192 = omega (arith, few) in devices
 
   pub op_values : HasOpValues (board_of tables s)
   op_values = board_values (platform_of tables) s sound words (bytes_enabled tables values)

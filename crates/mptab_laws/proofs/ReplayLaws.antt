@@ -1,5 +1,5 @@
 -- What `trace` and `boot` print is read back, and `replay` finds it legal.
-use Rattle.std.proofs.Common.{◌≡◌, ℕ, ◌≤◌, ◌<◌, ◌^◌, ◌⊎◌, List, [], ◌∷◌, length, Option, Some, None, IsSomeAnd, refl, sym, subst, ◌∙◌, ap, inl, inr, arith}
+use Rattle.std.proofs.Common.{◌≡◌, ℕ, ◌≤◌, ◌<◌, ◌^◌, ◌⊎◌, List, [], ◌∷◌, length, sum_by, Option, Some, None, IsSomeAnd, refl, sym, subst, ◌∙◌, ap, inl, inr, arith}
 use Rattle.std.specs.Prelude.{codes, ⊤}
 use Rattle.std.specs.List.{AllByRecursion}
 use Rattle.mpt_base.specs.Outside.{Files, Appends}
@@ -11,6 +11,7 @@ use Rattle.mpb_spec.specs.declared.pulse.Hit.{Hit}
 use Rattle.mpb_spec.specs.Plan.{Plan, plan_size}
 use Rattle.mpb_spec.specs.Configs.{IsConfig}
 use Rattle.mpb_spec.specs.Journal.{IsComplete}
+use Rattle.mpb_spec.specs.Room.{room}
 use Rattle.mpb_script.specs.declared.script.Script.{Script as AScript}
 use Rattle.mpb_script.specs.Script.{IsScriptOf}
 use Rattle.mpb_robin.specs.Account.{AccountsForPulses}
@@ -20,6 +21,7 @@ use Rattle.mpb_report_line.specs.declared.report.Report.{Report as AReport}
 use Rattle.mpb_report_parse.specs.Reports.{IsReportOf, shown_report}
 use Rattle.mpb_report_laws.specs.Values.{HasOpValues}
 use Rattle.mpb_report_laws.proofs.Reported.{read_back, complete_is_legal}
+use Rattle.mpb_report_laws.proofs.Lengths.{report_short}
 use Rattle.mpb_replay_laws.specs.declared.verdict.Verdict.{Verdict}
 use Rattle.mpb_replay_laws.specs.declared.verdict.Verdict.TheVariants.{Legal}
 use Rattle.mpb_replay_laws.specs.Verdict.{IsVerdict}
@@ -31,7 +33,7 @@ use Rattle.mptab_calls.specs.Commands.{ImageGives, ScriptGives, ReportGives, Wit
 use Rattle.mptab_calls.specs.Walk.{Outside, IsAnswer, IsAnswerOf, EndsAt, Reaches, IsDue, IsDueOf, IsFailure, Answers}
 use Rattle.mptab_calls.proofs.FormReading.{same_form}
 use Rattle.mptab_laws.specs.Laws.{AreBytesTold, IsReported, IsKept}
-use Rattle.mptab_laws.proofs.BoardRows.{board_config, small, op_values}
+use Rattle.mptab_laws.proofs.BoardRows.{board_config, small, room_small, few_words, op_values}
 use Rattle.mptab_laws.proofs.Rows.{IsRead-of, refused_fails, board_one, report_one, image_values}
 use Rattle.mptab_laws.proofs.WalkLaws.{end_not_all}
 
@@ -55,14 +57,15 @@ zero_answered listed told before after words (s, t, due, inr d) = absurd (omega 
 abbrev IsRunText : Plan → List ℕ → Type 0
 IsRunText c text = (journal : List Entry) × (logs : List (List (Pulse × Hit))) × IsComplete c journal × AccountsForPulses c journal logs × (text ≡ report_of c journal logs)
 
--- the text is that of a legal report
+-- the text is that of a legal report, within its limit
 abbrev IsLegalText : Plan → List ℕ → Type 0
-IsLegalText c text = (r : AReport) × IsReportOf r text × IsVerdict c r Legal
+IsLegalText c text = (r : AReport) × IsReportOf r text × IsVerdict c r Legal × (length text ≤ 268435456)
 
-legal_text : (c : Plan) (text : List ℕ) → IsConfig c → HasOpValues c → plan_size c < 2 ^ 32 → IsRunText c text → IsLegalText c text
-legal_text c text is v few (journal, logs, complete, accounts, e) =
+legal_text : (c : Plan) (text : List ℕ) → IsConfig c → HasOpValues c → plan_size c < 2 ^ 32 → room c < 850000 → sum_by length c.devices ≤ 8192 → IsRunText c text → IsLegalText c text
+legal_text c text is v few roomy words (journal, logs, complete, accounts, e) =
+    let short : length (report_of c journal logs) ≤ 268435456 = report_short c journal logs is v roomy words complete.legal accounts.pulses in
     let read : IsReportOf (shown_report c journal logs) (report_of c journal logs) = read_back c journal logs is v few complete.legal accounts.pulses in
-    (shown_report c journal logs, subst (IsReportOf (shown_report c journal logs)) (sym e) read, complete_is_legal c journal logs is complete accounts)
+    (shown_report c journal logs, subst (IsReportOf (shown_report c journal logs)) (sym e) read, complete_is_legal c journal logs is complete accounts, subst (λ (b : List ℕ). length b ≤ 268435456) (sym e) short)
 
 of_trace : (c : Plan) (text : List ℕ) → IsConfig c → plan_size c < 2 ^ 32 → IsTraceOf c text → IsRunText c text
 of_trace c text is few (journal, logs, robin, e) = (journal, logs, is_complete c journal logs is few robin, is_accounted c journal logs is few robin, e)
@@ -97,7 +100,7 @@ with_legal files image script text P bytes runs (tables, formed, low, gives, (s,
     let is : IsConfig (board_of tables s) = board_config tables s values words.0 sound in
     let few : plan_size (board_of tables s) < 2 ^ 32 = small tables s values words.0 sound in
     let ops : HasOpValues (board_of tables s) = op_values tables s values words.0 sound in
-    (tables, formed, low, gives, (s, words, sound, legal_text (board_of tables s) text is ops few (runs tables s is few p)))
+    (tables, formed, low, gives, (s, words, sound, legal_text (board_of tables s) text is ops few (room_small tables s values words.0 sound) (few_words tables s values words.0 sound) (runs tables s is few p)))
 
 reported : (listed : Form → Type 0) (files : Files) (image script text : List ℕ) → AreBytesTold files → IsReported listed files image script text → LegalBoard (Some files) image script text
 reported listed files image script text bytes (inl a) =
@@ -123,17 +126,17 @@ board_stays files after image script text e f (tables, formed, low, gives, (s, w
     (tables, formed, low, stays files after (Image image) (λ b. Describes b tables) e gives, (s, (words.0, stays files after (Script image script) (λ b. IsScriptOf b s) f words.1), sound, p))
 
 -- of these files the answer is the legal verdict
-judged : (after : Files) (image script report text : List ℕ) (s : ℕ) (t : List ℕ) → after report ≡ Some text → length text ≤ limit_of (Report report) → LegalBoard (Some after) image script text → IsAnswerOf (Some after) (Replay image script report) s t → (s ≡ 0) × (t ≡ verdict_line Legal)
-judged after image script report text s t holds within board (inl a) =
+judged : (after : Files) (image script report text : List ℕ) (s : ℕ) (t : List ℕ) → after report ≡ Some text → LegalBoard (Some after) image script text → IsAnswerOf (Some after) (Replay image script report) s t → (s ≡ 0) × (t ≡ verdict_line Legal)
+judged after image script report text s t holds board (inl a) =
     let legal : IsLegalText (board_of board.0 board.4.0) text = board.4.3 in
-    let read : ReportGives (Some after) report legal.0 = IsRead-of after (Report report) (IsReportOf legal.0) text holds within legal.1 in
+    let read : ReportGives (Some after) report legal.0 = IsRead-of after (Report report) (IsReportOf legal.0) text holds legal.3 legal.1 in
     let all : AllByRecursion (IsUnderstood (Some after)) (files_of (Replay image script report)) = ((board.0, board.3), ((board.0, board.1, board.3, board.4.0, board.4.1, board.4.2), ((legal.0, read), tt))) in
     absurd (end_not_all after (files_of (Replay image script report)) a.0 s t a.1 a.2 all)
-judged after image script report text s t holds within board (inr a) = board_one after image script _ _ ((s ≡ 0) × (t ≡ verdict_line Legal)) one board a.1
+judged after image script report text s t holds board (inr a) = board_one after image script _ _ ((s ≡ 0) × (t ≡ verdict_line Legal)) one board a.1
   where
     one : (tables : Tables) (x : AScript) → IsLegalText (board_of tables x) text → (r : AReport) × ReportGives (Some after) report r × IsJudged (board_of tables x) r s t → (s ≡ 0) × (t ≡ verdict_line Legal)
     one tables x legal (r, gives, (v, is, status, line)) =
-        let read : ReportGives (Some after) report legal.0 = IsRead-of after (Report report) (IsReportOf legal.0) text holds within legal.1 in
+        let read : ReportGives (Some after) report legal.0 = IsRead-of after (Report report) (IsReportOf legal.0) text holds legal.3 legal.1 in
         let same : r ≡ legal.0 = report_one after report r legal.0 gives read in
         let v_legal : v ≡ Legal = same_verdict (board_of tables x) legal.0 v Legal (subst (λ (q : AReport). IsVerdict (board_of tables x) q v) same is) legal.2 in
         (status ∙ ap verdict_status v_legal, line ∙ ap verdict_line v_legal)
@@ -150,10 +153,10 @@ module _ (files after : Files) (image script report text : List ℕ) (bytes : Ar
 
   pub replayed : (listed : Form → Type 0) (s : ℕ) (t : List ℕ) → listed (Replay image script report) → IsAnswer listed (Some after) (codes "replay" ∷ image ∷ script ∷ report ∷ []) s t → (s ≡ 0) × (t ≡ verdict_line Legal)
   replayed listed s t l (inl a) = absurd (a.0 (Replay image script report) l refl)
-  replayed listed s t l (inr a) = judged after image script report text s t kept.holds kept.within board (of_form listed (λ form. IsAnswerOf (Some after) form s t) a)
+  replayed listed s t l (inr a) = judged after image script report text s t kept.holds board (of_form listed (λ form. IsAnswerOf (Some after) form s t) a)
 
   due : (b a : Outside) (s : ℕ) (t : List ℕ) → IsDueOf (Some after) b a (Replay image script report) s t → (s ≡ 0) ⊎ ((s ≡ 4) ⊎ (s ≡ 9))
-  due b a s t (inl h) = inl (judged after image script report text s t kept.holds kept.within board h.0).0
+  due b a s t (inl h) = inl (judged after image script report text s t kept.holds board h.0).0
   due b a s t (inr (inl h)) = inr (inl h.0)
   due b a s t (inr (inr h)) = inr (inr h.0)
 

@@ -5,10 +5,10 @@
 --     AreAlike s u t v        two answers have one status, and, where it isn't 0, one text
 --     IsReported listed files image script text    the text is the report of a run of the board of image and script
 --     IsKept files after image script report text  later the report's file holds it, and image and script are as they were
-use Rattle.std.specs.Prelude.{◌≡◌, ◌≢◌, ◌≤◌, ◌⊎◌, ℕ, List, [], ◌∷◌, length, codes, Some, IfSome, ⊤}
+use Rattle.std.specs.Prelude.{◌≡◌, ◌≢◌, ◌⊎◌, ℕ, List, [], ◌∷◌, codes, Some, IfSome, ⊤}
 use Rattle.mpt_base.specs.Outside.{Files}
 use Rattle.mpt_base.specs.Bytes.{IsByteList}
-use Rattle.mptab_calls.specs.Forms.{Form, Show, Audit, Canon, Raise, Madt, Pirmake, Build, Route, Trace, Boot, Drill, Replay, Madtcmp, Pircmp, Pic, Report, IsForm, limit_of}
+use Rattle.mptab_calls.specs.Forms.{Form, Show, Audit, Canon, Raise, Madt, Pirmake, Build, Route, Trace, Boot, Drill, Replay, Madtcmp, Pircmp, Pic, IsForm}
 use Rattle.mptab_calls.specs.Walk.{IsAnswer}
 
 -- each file is a list of bytes
@@ -47,9 +47,8 @@ IsReported listed files image script text =
     IsAnswer listed (Some files) (codes "trace" ∷ image ∷ script ∷ []) 0 text
     ⊎ IsAnswer listed (Some files) (codes "boot" ∷ image ∷ script ∷ []) 0 text
 
--- later the report's file holds the text, within its limit, and image and script are as they were
+-- later the report's file holds the text, and image and script are as they were
 pub record IsKept (files after : Files) (image script report text : List ℕ) : Type 0 where
   pub image_stays : after image ≡ files image
   pub script_stays : after script ≡ files script
   pub holds : after report ≡ Some text
-  pub within : length text ≤ limit_of (Report report)
