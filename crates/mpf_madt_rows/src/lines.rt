@@ -1,7 +1,7 @@
 //! The lines of ISA interrupts, in a table and by the routes of a platform.
 
 use crate::harness::same;
-use crate::platforms::{BOARD, answers, board};
+use crate::platforms::{BOARD, answers, board, sealed};
 use mpf_madt::{Line, isa, read_madt, source};
 use mpt_base::seal8;
 use std::alloc::Global;
@@ -57,6 +57,30 @@ fn interrupts_have_their_lines(rt: HostRuntime) -> Result<(), Fail> {
     same(&rt, "source of IRQ 2", board_source(alloc, 2), Some(None));
     let own = Some(line(15, false, false));
     same(&rt, "source of IRQ 15", board_source(alloc, 15), Some(own));
+    Ok(())
+}
+
+// behind the board's header three overrides: IRQ 0 of bus 1, and twice IRQ 0 of bus 0, of which the first decides;
+// then one of IRQ 200. IRQ 1 and 255 have none.
+#[test]
+fn the_first_override_of_bus_0_decides(rt: HostRuntime) -> Result<(), Fail> {
+    let alloc = rt.alloc();
+    let mut bytes = Vec::from_slice(alloc, &BOARD[..44])?;
+    bytes.extend_from_slice(&[2, 10, 1, 0, 9, 0, 0, 0, 0x0F, 0])?;
+    bytes.extend_from_slice(&[2, 10, 0, 0, 3, 0, 0, 0, 0x05, 0])?;
+    bytes.extend_from_slice(&[2, 10, 0, 0, 4, 0, 0, 0, 0x0F, 0])?;
+    bytes.extend_from_slice(&[2, 10, 0, 200, 0x78, 0x56, 0x34, 0x12, 0x03, 0xFF])?;
+    let bytes = sealed(bytes);
+    let rows = [
+        (0, line(3, false, false)),
+        (1, line(1, false, false)),
+        (200, line(0x1234_5678, false, true)),
+        (255, line(255, false, false)),
+    ];
+    for (irq, want) in rows {
+        let got = isa_in(alloc, bytes.as_slice(), irq);
+        same(&rt, "the line", got, Some(want));
+    }
     Ok(())
 }
 

@@ -271,18 +271,18 @@ fn tables_are_written_again(rt: HostRuntime) -> Result<(), Fail> {
     Ok(())
 }
 
-// a table with one opaque entry of this type, with a rest of so many bytes
-fn opaque(alloc: Global, kind: u8, size: usize) -> Result<Madt, AllocError> {
-    let mut rest = Vec::new(alloc);
-    for _ in 0..size {
-        rest.push(0u8)?;
-    }
-    let mut entries = Vec::new(alloc);
-    entries.push(MadtEntry::Other(Opaque {
+// an opaque entry of this type, with a rest of so many bytes
+fn opaque_entry(alloc: Global, kind: u8, size: usize) -> Result<MadtEntry, AllocError> {
+    let rest = vec![in alloc; 0u8; size]?;
+    Ok(MadtEntry::Other(Opaque {
         kind,
         rest: Sequence::new(rest),
-    }))?;
-    Ok(Madt {
+    }))
+}
+
+// a table of these entries
+fn table(entries: Vec<MadtEntry>) -> Madt {
+    Madt {
         revision: 1,
         oem: *b"MPTAB ",
         table: *b"MPTABLE ",
@@ -292,7 +292,24 @@ fn opaque(alloc: Global, kind: u8, size: usize) -> Result<Madt, AllocError> {
         local_address: 0,
         flags: 0,
         entries: Sequence::new(entries),
-    })
+    }
+}
+
+// a table with one opaque entry of this type, with a rest of so many bytes
+fn opaque(alloc: Global, kind: u8, size: usize) -> Result<Madt, AllocError> {
+    let mut entries = Vec::new(alloc);
+    entries.push(opaque_entry(alloc, kind, size)?)?;
+    Ok(table(entries))
+}
+
+// a table with 4,111 entries of 255 bytes, and one with a rest of so many: 1,048,351 bytes, and those
+fn large(alloc: Global, size: usize) -> Result<Madt, AllocError> {
+    let mut entries = Vec::new(alloc);
+    for _ in 0..4111 {
+        entries.push(opaque_entry(alloc, 3, 253)?)?;
+    }
+    entries.push(opaque_entry(alloc, 3, size)?)?;
+    Ok(table(entries))
 }
 
 // opaque entries have a type of their own and a rest of at most 253 bytes
@@ -305,5 +322,14 @@ fn opaque_entries_are_judged(rt: HostRuntime) -> Result<(), Fail> {
     same(&rt, "type 1", madt_ok(&opaque(alloc, 1, 10)?), false);
     same(&rt, "type 2", madt_ok(&opaque(alloc, 2, 8)?), false);
     same(&rt, "type 4", madt_ok(&opaque(alloc, 4, 4)?), false);
+    Ok(())
+}
+
+// a table has at most 1,048,576 bytes
+#[test]
+fn large_tables_are_judged(rt: HostRuntime) -> Result<(), Fail> {
+    let alloc = rt.alloc();
+    same(&rt, "the most", madt_ok(&large(alloc, 225)?), true);
+    same(&rt, "one more", madt_ok(&large(alloc, 226)?), false);
     Ok(())
 }

@@ -183,6 +183,26 @@ fn overrides_follow_the_routes(rt: HostRuntime) -> Result<(), Fail> {
     Ok(())
 }
 
+// two entries of bus 0, of which the first says ISA, and of bus 1, of which the first says PCI: IRQ 4 is one of ISA,
+// IRQ 5 isn't
+#[test]
+fn the_first_bus_entry_decides(rt: HostRuntime) -> Result<(), Fail> {
+    let alloc = rt.alloc();
+    let buses = [
+        bus(0, *b"ISA   "),
+        bus(0, *b"PCI   "),
+        bus(1, *b"PCI   "),
+        bus(1, *b"ISA   "),
+    ];
+    let ints = [int(0, 0x05, 0, 4, 2, 6), int(0, 0x05, 1, 5, 2, 7)];
+    let p = platform(alloc, &[], &buses, &[io(2, 1, 0x10)], &ints, &[]);
+    let want = [
+        1, 12, 2, 0, 0x10, 0, 0, 0, 0, 0, 0, 0, 2, 10, 0, 4, 6, 0, 0, 0, 0x05, 0,
+    ];
+    same_entries(&rt, alloc, p, 0, &want);
+    Ok(())
+}
+
 // a platform of so many processors
 fn many(alloc: Global, count: usize) -> Option<Platform> {
     let mut processors = Vec::new(alloc);

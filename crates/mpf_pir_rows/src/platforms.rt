@@ -43,7 +43,9 @@ fn first_entries_decide(rt: HostRuntime) -> Result<(), Fail> {
     let ints = [
         int(0, 3, 0x7F, 2, 20), // INTD# of device 31 on bus 3
         int(1, 0, 0x04, 2, 21), // an NMI
+        int(3, 0, 0x08, 2, 21), // an ExtINT
         int(0, 1, 0x04, 2, 21), // bus 1 is ISA by its first entry
+        int(0, 9, 0x04, 2, 21), // there is no bus 9
         int(0, 0, 0x84, 2, 22), // INTA# of device 1 on bus 0; bit 7 is no part of it
         int(0, 0, 0x06, 2, 20), // INTC# of device 1, on the first wire
         int(0, 0, 0x04, 2, 23), // INTA# of device 1 again, on a wire that nobody else has
