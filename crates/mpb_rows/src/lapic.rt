@@ -93,12 +93,15 @@ fn has_priority(rt: &impl Abort, vector: u8, tpr: u8, want: u8) {
     );
 }
 
-// Each class of the vector in service, with task priorities at the bounds of the classes beside it.
+// Each class of the vector in service, its least and its greatest vector, and task priorities at the bounds of the
+// classes beside it.
 #[test]
 fn processor_priority_at_each_class(rt: HostRuntime) {
     for class in 1..16u8 {
         let first = class * 16;
         let served = first + 5;
+        has_priority(&rt, first, 0, first);
+        has_priority(&rt, first + 15, 0, first);
         has_priority(&rt, served, 0, first);
         has_priority(&rt, served, first - 1, first);
         has_priority(&rt, served, first, first);

@@ -6,9 +6,10 @@
 --     row_ops answer                        what writes the row of a routed interrupt
 --     boot_program_of p answers page        the whole
 --     AreRoutes p answers                   the answers are the platform's routes, under some ELCR
-use Rattle.std.specs.Prelude.{◌≡◌, ℕ, ◌+◌, ◌*◌, ◌%◌, ◌==◌, ◌&&◌, not, nat_le, Bool, if◌then◌else◌, List, [], ◌∷◌, ◌++◌, filter, unwrap_or, option_map}
+use Rattle.std.specs.Prelude.{◌≡◌, ℕ, ◌+◌, ◌*◌, ◌==◌, ◌&&◌, not, nat_le, Bool, if◌then◌else◌, List, [], ◌∷◌, ◌++◌, filter, unwrap_or, option_map}
 use Rattle.std.specs.List.{flat_map}
 use Rattle.mpt_spec.specs.declared.entry.Processor.{Processor}
+pub use Rattle.mpt_spec.specs.Flags.{is_enabled_processor as is_enabled}
 use Rattle.mpt_route.specs.declared.platform.Platform.{Platform}
 use Rattle.mpt_route.specs.declared.route.Answer.{Answer}
 use Rattle.mpt_route.specs.declared.route.Answer.TheVariants as answer
@@ -20,10 +21,6 @@ use Rattle.mpb_spec.specs.declared.agent.Op.TheVariants as op
 -- the boot processor's id, 0 where there is none
 abbrev pub boot_id_of : Platform → ℕ
 boot_id_of p = unwrap_or (option_map (λ e. e.apic) (boot_processor_of p)) 0
-
--- bit 0 of the flags is EN (section 4.3.1)
-abbrev pub is_enabled : Processor → Bool
-is_enabled e = e.flags % 2 == 1
 
 -- the enabled processors with another id, in table order
 abbrev pub other_processors : Platform → List Processor

@@ -6,7 +6,7 @@ ghost use Rattle.mpt_route.specs.Platform.{boot_processor_of};
 ghost use Rattle.mpb_setup.specs.Boot.{boot_id_of, is_enabled, start_ops, imcr_ops, row_ops, boot_program_of, AreRoutes};
 ghost use Rattle.mpb_setup.specs.Steps.{HasPin};
 
-use mpb_spec::Op;
+use mpb_spec::{Op, STARTUP_VERSION};
 use mpt_base::NoMemory;
 use mpt_route::{Answer, Platform, boot_processor_of};
 use mpt_spec::Processor;
@@ -86,14 +86,14 @@ fn push_starts(
 fn is_other(e: Processor, boot: u8) -> bool
     ensures { result ≡ (is_enabled e && not (e.apic == boot)) }
 {
-    e.flags % 2 == 1 && e.apic != boot
+    e.is_enabled() && e.apic != boot
 }
 
 // one is started
 fn push_start(ops: &mut Vec<Op>, e: Processor, page: u8) -> Result<(), AllocError>
     ensures { OnOk result (ops.new.items ≡ ops.old.items ++ start_ops page e) }
 {
-    if e.version >= 0x10 {
+    if e.version >= STARTUP_VERSION {
         ops.extend_from_slice(&[
             Op::Init(e.apic),
             Op::Pause(10_000),

@@ -8,7 +8,7 @@ ghost use Rattle.mpb_setup.specs.Faults.{least_double, is_op_at, is_word_at, nam
 
 use crate::ids::{has_id, is_present};
 use mpb_script::{CpuScript, Script};
-use mpb_spec::{BoardError, DevWord, Op};
+use mpb_spec::{BoardError, DevWord, ENTRY_TO_ALL, MOST_CPUS, MOST_IO_APICS, Op, TO_ALL};
 use mpt_route::{Platform, boot_processor_of};
 use mpt_spec::Sequence;
 
@@ -111,7 +111,7 @@ fn names_place(ids: &[u8], s: &Script, place: u8) -> bool
 fn least_absent_place(ios: usize, ids: &[u8], s: &Script) -> Option<u8>
     ensures { result ≡ least_absent_place ios ids.now s.now }
 {
-    for place in 0..4u8 {
+    for place in 0..MOST_IO_APICS as u8 {
         if ios <= usize::from(place) && names_place(ids, s, place) {
             return Some(place);
         }
@@ -143,22 +143,22 @@ pub fn board_fault(
     if let Some(id) = least_double(ios) {
         return Some(BoardError::DoubleId { id });
     }
-    if has_id(enabled, 255) {
-        return Some(BoardError::WideId { id: 255 });
+    if has_id(enabled, TO_ALL) {
+        return Some(BoardError::WideId { id: TO_ALL });
     }
     let id = boot.apic;
-    if id >= 15 {
+    if id >= ENTRY_TO_ALL {
         return Some(BoardError::BootWide { id });
     }
     if !is_present(s, id) {
         return Some(BoardError::BootAbsent { id });
     }
-    if board.len() > 8 {
+    if board.len() > MOST_CPUS {
         return Some(BoardError::ManyCpus {
             n: board.len() as u32,
         });
     }
-    if ios.len() > 4 {
+    if ios.len() > MOST_IO_APICS {
         return Some(BoardError::ManyIo {
             n: ios.len() as u32,
         });

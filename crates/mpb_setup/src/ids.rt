@@ -15,7 +15,7 @@ pub fn enabled_ids(alloc: Global, p: &Platform) -> Result<Vec<u8>, AllocError>
     p.processors
         .as_slice()
         .iter()
-        .filter(|e| e.flags % 2 == 1)
+        .filter(|e| e.is_enabled())
         .map(|e| e.apic)
         .collect(alloc)
 }
@@ -27,7 +27,7 @@ pub fn io_ids(alloc: Global, p: &Platform) -> Result<Vec<u8>, AllocError>
     p.ios
         .as_slice()
         .iter()
-        .filter(|io| io.flags % 2 == 1)
+        .filter(|io| io.is_enabled())
         .map(|io| io.id)
         .collect(alloc)
 }

@@ -14,7 +14,7 @@ use std::alloc::{AllocError, Global};
 fn version_in(processors: &[Processor], id: u8) -> u8
     ensures { result ≡ version_in processors.now id }
 {
-    match processors.iter().find(|e| e.flags % 2 == 1 && e.apic == id) {
+    match processors.iter().find(|e| e.is_enabled() && e.apic == id) {
         Some(e) => e.version,
         None => 0,
     }

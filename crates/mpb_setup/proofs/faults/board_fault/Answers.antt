@@ -13,7 +13,7 @@ overflow_cast-result c =
     let same : length c.args.board.now ≡ length (board_ids p s) = ap length c.requires.board in
     omega (arith, few, same)
 
-pub overflow_cast-result-then-ios-gt4 : goal.overflow_cast-result-then-ios-gt4
-overflow_cast-result-then-ios-gt4 c =
+pub overflow_cast-result-then-ios-gt-MOST_IO_APICS : goal.overflow_cast-result-then-ios-gt-MOST_IO_APICS
+overflow_cast-result-then-ios-gt-MOST_IO_APICS c =
     let none : least_double c.args.ios.now ≡ None = sym c.least_double-2.ensures ∙ c.in_default-least_double-2.is in
     omega (arith, few-bytes c.args.ios.now (are-bytes c.args.ios.now (λ i _. omega (arith, c.type_inv.ios i))) none)
