@@ -4,6 +4,10 @@ ghost use Rattle.std.specs.Prelude.{◌≡◌};
 ghost use Rattle.mpf_madt.specs.Lines.{first_some, override_of, isa_of};
 
 use crate::madt::{Madt, MadtEntry};
+use mpt_spec::IO_APIC_PINS;
+
+/// How many global system interrupts each I/O APIC has, one for each pin.
+pub(crate) const PINS: u32 = IO_APIC_PINS as u32;
 
 /// The line of an interrupt.
 #[derive(Clone, Copy, Debug, PartialEq, Eq)]

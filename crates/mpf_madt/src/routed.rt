@@ -6,7 +6,7 @@ ghost use Rattle.mpt_route.specs.Routes.{bus_kind_in};
 ghost use Rattle.mpt_route.specs.Sense.{bus_kind_of};
 ghost use Rattle.mpf_madt.specs.Lines.{first_some, is_isa, is_isa_int, line_of, source_by, source_of, Differs};
 
-use crate::line::{Line, isa};
+use crate::line::{Line, PINS, isa};
 use crate::madt::Madt;
 use mpt_route::{Answer, BusKind, Platform, Route, bus_kind};
 use mpt_spec::{Bus, IntEntry};
@@ -47,7 +47,7 @@ fn line_of(row: Route) -> Line
     ensures { result ≡ line_of row }
 {
     Line {
-        gsi: 24 * u32::from(row.io) + u32::from(row.pin),
+        gsi: PINS * u32::from(row.io) + u32::from(row.pin),
         level: row.low >> 15 & 1 == 1,
         low: row.low >> 13 & 1 == 1,
     }

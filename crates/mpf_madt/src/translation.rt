@@ -8,7 +8,7 @@ ghost use Rattle.mpt_route.specs.Platform.{IsSmallPlatform};
 ghost use Rattle.mpf_madt.specs.Causes.{IsTranslateCause};
 ghost use Rattle.mpf_madt.specs.declared.translation.TranslateFault.TheVariants as fault;
 
-use crate::line::Line;
+use crate::line::{Line, PINS};
 use crate::madt::{Madt, MadtEntry};
 use crate::routed::source;
 use mpt_route::{Answer, Platform};
@@ -62,7 +62,7 @@ fn ios(alloc: Global, ios: &[IoApic]) -> Result<Vec<MadtEntry>, AllocError>
                 id: io.id,
                 reserved: 0,
                 address: io.address,
-                base: 24 * place,
+                base: PINS * place,
             })?;
         }
     }
