@@ -32,7 +32,7 @@ use Rattle.mptab_calls.specs.Forms.{Form, Trace, Boot, Replay, Named, Image, Scr
 use Rattle.mptab_calls.specs.Commands.{ImageGives, ScriptGives, ReportGives, WithBoard, IsUnderstood, IsTraced, IsBooted, IsJudged, IsText, verdict_status}
 use Rattle.mptab_calls.specs.Walk.{Outside, IsAnswer, IsAnswerOf, EndsAt, Reaches, IsDue, IsDueOf, IsFailure, Answers}
 use Rattle.mptab_calls.proofs.FormReading.{same_form}
-use Rattle.mptab_laws.specs.Laws.{AreBytesTold, IsReported, IsKept}
+use Rattle.mptab_laws.specs.Laws.{AreBytesTold, IsReported, HoldsReport}
 use Rattle.mptab_laws.proofs.BoardRows.{board_config, small, room_small, few_words, op_values}
 use Rattle.mptab_laws.proofs.Rows.{IsRead-of, refused_fails, board_one, report_one, image_values}
 use Rattle.mptab_laws.proofs.WalkLaws.{end_not_all}
@@ -144,7 +144,7 @@ judged after image script report text s t holds board (inr a) = board_one after 
 abbrev replay_words : List ℕ → List ℕ → List ℕ → List (List ℕ)
 replay_words image script report = codes "replay" ∷ image ∷ script ∷ report ∷ []
 
-module _ (files after : Files) (image script report text : List ℕ) (bytes : AreBytesTold files) (is : IsReported IsAny files image script text) (kept : IsKept files after image script report text) where
+module _ (files after : Files) (image script report text : List ℕ) (bytes : AreBytesTold files) (is : IsReported IsAny files image script text) (kept : HoldsReport files after image script report text) where
   board : LegalBoard (Some after) image script text
   board = board_stays files after image script text kept.image_stays kept.script_stays (reported IsAny files image script text bytes is)
 

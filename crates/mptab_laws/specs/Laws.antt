@@ -4,7 +4,7 @@
 --     HaveOneText words       so it is of the form of these words
 --     AreAlike s u t v        two answers have one status, and, where it isn't 0, one text
 --     IsReported listed files image script text    the text is the report of a run of the board of image and script
---     IsKept files after image script report text  later the report's file holds it, and image and script are as they were
+--     HoldsReport files after image script report text  later the report's file holds it, and image and script are as they were
 use Rattle.std.specs.Prelude.{◌≡◌, ◌≢◌, ◌⊎◌, ℕ, List, [], ◌∷◌, codes, Some, IfSome, ⊤}
 use Rattle.mpt_base.specs.Outside.{Files}
 use Rattle.mpt_base.specs.Bytes.{IsByteList}
@@ -48,7 +48,7 @@ IsReported listed files image script text =
     ⊎ IsAnswer listed (Some files) (codes "boot" ∷ image ∷ script ∷ []) 0 text
 
 -- later the report's file holds the text, and image and script are as they were
-pub record IsKept (files after : Files) (image script report text : List ℕ) : Type 0 where
+pub record HoldsReport (files after : Files) (image script report text : List ℕ) : Type 0 where
   pub image_stays : after image ≡ files image
   pub script_stays : after script ≡ files script
   pub holds : after report ≡ Some text

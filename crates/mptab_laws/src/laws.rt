@@ -13,7 +13,7 @@ ghost use Rattle.mpb_boot.specs.Lines.{verdict_line};
 ghost use Rattle.mptab_calls.specs.Commands.{fault_line};
 ghost use Rattle.mptab_calls.specs.Forms.{Form, Drill, IsForm, IsAny, IsStill, IsRead, Image, files_of};
 ghost use Rattle.mptab_calls.specs.Walk.{Outside, IsAnswer, Answers, Reaches};
-ghost use Rattle.mptab_laws.specs.Laws.{AreBytesTold, HaveOneText, AreAlike, IsReported, IsKept};
+ghost use Rattle.mptab_laws.specs.Laws.{AreBytesTold, HaveOneText, AreAlike, IsReported, HoldsReport};
 
 /// Words and told files of bytes have an answer.
 pub fn words_have_an_answer()
@@ -85,17 +85,17 @@ pub fn reports_are_replayed()
     ensures read { (files : Files) (image script text : List ℕ) → AreBytesTold files → IsReported IsAny files image script text
         → (r : AReport) × IsReportOf r text }
     ensures any { (files after : Files) (image script report text t : List ℕ) (s : ℕ) → AreBytesTold files
-        → IsReported IsAny files image script text → IsKept files after image script report text
+        → IsReported IsAny files image script text → HoldsReport files after image script report text
         → IsAnswer IsAny (Some after) (codes "replay" ∷ image ∷ script ∷ report ∷ []) s t → (s ≡ 0) × (t ≡ verdict_line Legal) }
     ensures still { (files after : Files) (image script report text t : List ℕ) (s : ℕ) → AreBytesTold files
-        → IsReported IsAny files image script text → IsKept files after image script report text
+        → IsReported IsAny files image script text → HoldsReport files after image script report text
         → IsAnswer IsStill (Some after) (codes "replay" ∷ image ∷ script ∷ report ∷ []) s t → (s ≡ 0) × (t ≡ verdict_line Legal) }
     ensures any_status { (files told : Files) (image script report text : List ℕ) (before after : Outside) (result : ℕ) → AreBytesTold files
-        → IsReported IsAny files image script text → IsKept files told image script report text
+        → IsReported IsAny files image script text → HoldsReport files told image script report text
         → Answers IsAny (Some told) before after (codes "replay" ∷ image ∷ script ∷ report ∷ []) result
         → (result ≡ 0) ⊎ ((result ≡ 4) ⊎ ((result ≡ 5) ⊎ (result ≡ 9))) }
     ensures still_status { (files told : Files) (image script report text : List ℕ) (before after : Outside) (result : ℕ) → AreBytesTold files
-        → IsReported IsAny files image script text → IsKept files told image script report text
+        → IsReported IsAny files image script text → HoldsReport files told image script report text
         → Answers IsStill (Some told) before after (codes "replay" ∷ image ∷ script ∷ report ∷ []) result
         → (result ≡ 0) ⊎ ((result ≡ 4) ⊎ ((result ≡ 5) ⊎ (result ≡ 9))) }
 {}
