@@ -1,10 +1,14 @@
 -- The digits of a byte and of a mask of pins, one by one.
-use Rattle.std.proofs.Common.{◌≡◌, ℕ, ◌/◌, ◌%◌, [], ◌∷◌, refl, arith}
+use Rattle.std.proofs.Common.{◌≡◌, ℕ, ◌/◌, ◌%◌, List, [], ◌∷◌, ◌++◌, refl, arith}
 use Rattle.mpt_listing.specs.Listing.{hex, hex_digit}
 
 pub two_digits : (n : ℕ) → hex 2 n ≡ hex_digit (n / 16 % 16) ∷ hex_digit (n % 16) ∷ []
 unfolding hex
 two_digits n = refl
+
+pub two_before : (n : ℕ) (rest : List ℕ) → hex 2 n ++ rest ≡ hex_digit (n / 16 % 16) ∷ hex_digit (n % 16) ∷ rest
+unfolding hex
+two_before n rest = refl
 
 pub six_digits : (n : ℕ) → hex 6 n ≡ hex_digit (n / 1048576 % 16) ∷ hex_digit (n / 65536 % 16) ∷ hex_digit (n / 4096 % 16) ∷ hex_digit (n / 256 % 16) ∷ hex_digit (n / 16 % 16) ∷ hex_digit (n % 16) ∷ []
 unfolding hex

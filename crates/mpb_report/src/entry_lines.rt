@@ -62,7 +62,7 @@ fn push_agent(out: &mut Vec<u8>, agent: Agent) -> Result<(), AllocError>
 }
 
 // a processor, in one piece
-#[tactic(auto, using(crate::proofs::DigitLemmas::two_digits))]
+#[tactic(auto, using(crate::proofs::DigitLemmas::two_before))]
 fn push_cpu(out: &mut Vec<u8>, id: u64) -> Result<(), AllocError>
     ensures { OnOk result (out.new.items ≡ out.old.items ++ codes " cpu " ++ hex 2 id ++ codes " ") }
 {
@@ -154,7 +154,7 @@ fn push_named(out: &mut Vec<u8>, name: &[u8], byte: u64) -> Result<(), AllocErro
 }
 
 // a name and two bytes
-#[tactic(auto, using(crate::proofs::DigitLemmas::two_digits))]
+#[tactic(auto, using(crate::proofs::DigitLemmas::two_before))]
 fn push_pair(out: &mut Vec<u8>, name: &[u8], one: u64, other: u64) -> Result<(), AllocError>
     ensures { OnOk result (out.new.items ≡ out.old.items ++ concat (name.now ∷ hex 2 one ∷ codes " " ∷ hex 2 other ∷ [])) }
 {
@@ -198,7 +198,7 @@ fn push_further_outcome(out: &mut Vec<u8>, outcome: Outcome) -> Result<(), Alloc
 }
 
 // a target, in one piece
-#[tactic(auto, using(crate::proofs::DigitLemmas::two_digits))]
+#[tactic(auto, using(crate::proofs::DigitLemmas::two_before))]
 fn push_target(out: &mut Vec<u8>, id: u64) -> Result<(), AllocError>
     ensures { OnOk result (out.new.items ≡ out.old.items ++ codes " " ++ hex 2 id ++ codes "=") }
 {
