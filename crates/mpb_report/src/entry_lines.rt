@@ -38,7 +38,7 @@ pub fn push_entry_line(out: &mut Vec<u8>, number: u64, entry: &Entry) -> Result<
 
 // between spaces
 fn push_agent(out: &mut Vec<u8>, agent: Agent) -> Result<(), AllocError>
-    ensures { OnOk result (out.new.items ≡ out.old.items ++ codes " " ++ agent_text agent ++ codes " ") }
+    ensures { OnOk result (out.new.items ≡ out.old.items ++ (codes " " ++ (agent_text agent ++ codes " "))) }
 {
     match agent {
         Agent::Cpu(id) => push_cpu(out, id as u64),
@@ -64,7 +64,7 @@ fn push_agent(out: &mut Vec<u8>, agent: Agent) -> Result<(), AllocError>
 // a processor, in one piece
 #[tactic(auto, using(crate::proofs::DigitLemmas::two_before))]
 fn push_cpu(out: &mut Vec<u8>, id: u64) -> Result<(), AllocError>
-    ensures { OnOk result (out.new.items ≡ out.old.items ++ codes " cpu " ++ hex 2 id ++ codes " ") }
+    ensures { OnOk result (out.new.items ≡ out.old.items ++ (codes " cpu " ++ (hex 2 id ++ codes " "))) }
 {
     out.extend_from_slice(&[
         b' ',
@@ -200,7 +200,7 @@ fn push_further_outcome(out: &mut Vec<u8>, outcome: Outcome) -> Result<(), Alloc
 // a target, in one piece
 #[tactic(auto, using(crate::proofs::DigitLemmas::two_before))]
 fn push_target(out: &mut Vec<u8>, id: u64) -> Result<(), AllocError>
-    ensures { OnOk result (out.new.items ≡ out.old.items ++ codes " " ++ hex 2 id ++ codes "=") }
+    ensures { OnOk result (out.new.items ≡ out.old.items ++ (codes " " ++ (hex 2 id ++ codes "="))) }
 {
     out.extend_from_slice(&[b' ', digit(id / 16), digit(id), b'='])
 }
