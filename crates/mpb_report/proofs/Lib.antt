@@ -2,4 +2,3 @@ pub mod LineLemmas
 pub mod PartLemmas
 pub mod FoundLemmas
 pub mod MemberLemmas
-pub mod DigitLemmas

@@ -2,7 +2,6 @@
 //! text of lines. The format is this project's own.
 #![tactic(auto)]
 
-mod digits;
 mod entry_lines;
 mod laws;
 mod log_lines;
