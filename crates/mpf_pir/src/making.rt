@@ -16,6 +16,12 @@ use mpt_route::Platform;
 use mpt_spec::{IntEntry, Sequence};
 use std::alloc::{AllocError, Global};
 
+/// The most slots that a table has place for.
+const MOST_SLOTS: usize = 4093;
+
+/// The most links that a byte tells apart, beside 0 for none.
+const MOST_LINKS: usize = 255;
+
 /// Why no table is made.
 #[derive(Clone, Copy, Debug, PartialEq, Eq)]
 pub enum MakeFault {
@@ -138,11 +144,11 @@ pub fn make(alloc: Global, p: &Platform) -> Result<Pir, MakeFault>
 {
     let wiring = wiring_of(alloc, p)?;
     let slots = wiring.devices.len();
-    if slots > 4093 {
+    if slots > MOST_SLOTS {
         return Err(MakeFault::ManySlots { n: slots as u32 });
     }
     let links = wiring.wires.entries.len();
-    if links > 255 {
+    if links > MOST_LINKS {
         return Err(MakeFault::ManyLinks { n: links as u32 });
     }
     let slots = slots_of(
