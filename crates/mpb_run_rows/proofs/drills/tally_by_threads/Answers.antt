@@ -8,4 +8,4 @@ pub tally_of-requires : goal.tally_of-requires
 tally_of-requires g c =
     let plan = c.in_ok-board.board.plan in
     let small : plan_size plan < 2 ^ 32 = subst (λ (p : Plan). plan_size p < 2 ^ 32) (sym c.in_ok-board.ensures.plan) c.requires in
-    few_hits plan c.in_ok-ran.ran.board.journal (logs_of c.in_ok-ran.ran.account) c.in_ok-ran.ensures.accounts small
+    record { few = few_hits plan c.in_ok-ran.ran.board.journal (logs_of c.in_ok-ran.ran.account) c.in_ok-ran.ensures.accounts small }
