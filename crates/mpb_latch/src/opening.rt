@@ -9,7 +9,7 @@ use crate::rule::{Balance, OneCollector, OneDevice, Plans};
 use crate::seat::{ColSeat, DevSeat};
 use crate::view::SeatView;
 use atomic_table::{Seat, Table};
-use mpb_spec::{Hit, Pulse};
+use mpb_spec::{Hit, PINS, Pulse};
 use mpt_base::NoMemory;
 use std::alloc::Global;
 use std::snapshot::Snapshot;
@@ -141,7 +141,7 @@ pub(crate) fn collector_seats(
         return Err(NoMemory);
     };
     for io in 0..ios {
-        let Ok(counts) = Vec::from_elem(alloc, 0u32, 24) else {
+        let Ok(counts) = Vec::from_elem(alloc, 0u32, usize::from(PINS)) else {
             return Err(NoMemory);
         };
         let seat = cut_collector(table, all, io, plans.len() as u64, counts);

@@ -9,7 +9,7 @@ ghost use Rattle.mpb_replay.specs.Compared.{AreAccounted, IsFirstPin, IsFirstPin
 
 use mpb_board::{Agent, Entry, Op};
 use mpb_latch::add_pins;
-use mpb_spec::{Hit, Pulse};
+use mpb_spec::{Hit, PINS, Pulse};
 use mpt_spec::Sequence;
 
 /// A pin of an I/O APIC.
@@ -107,12 +107,12 @@ fn pins_of(entry: &Entry, io: u8) -> u32
 }
 
 // how often each pin of the I/O APIC is collected
-fn collections(entries: &[Entry], io: u8) -> [u32; 24]
+fn collections(entries: &[Entry], io: u8) -> [u32; PINS as usize]
     requires short { length entries.now < 2 ^ 32 }
     ensures wide { length result ≡ 24 }
     ensures counts { (pin : ℕ) → pin < 24 → slice_index result pin ≡ collected_count io pin entries.now }
 {
-    let mut counts = [0; 24];
+    let mut counts = [0; PINS as usize];
     for entry in entries {
         add_pins(&mut counts, pins_of(entry, io));
     }

@@ -1,13 +1,15 @@
 //! The lines of the entries of a journal.
 
-ghost use Rattle.std.specs.Prelude.{◌≡◌, ◌++◌, OnOk};
+ghost use Rattle.std.specs.Prelude.{◌≡◌, ◌++◌, ◌∷◌, [], OnOk, codes};
 ghost use Rattle.std.specs.List.{concat, flat_map};
+ghost use Rattle.mpt_listing.specs.Listing.{hex};
 ghost use Rattle.mpb_report.specs.Numbered.{numbered};
-ghost use Rattle.mpb_report.specs.EntryLines.{agent_text, op_text, trigger_text, what_text, has_target, outcome_text, further_outcome, entry_line};
+ghost use Rattle.mpb_report.specs.EntryLines.{agent_text, op_text, trigger_text, what_text, has_target, further_outcome, entry_line};
 
+use crate::digits::{digit, push_six, push_two};
 use crate::parts::push_parts;
 use mpb_board::{Agent, Entry, Op, Outcome, What};
-use mpt_listing::{Part, push_text};
+use mpt_listing::{Part, push_decimal, push_text};
 use std::alloc::AllocError;
 
 /// Writes the lines of the entries, numbered from 0.
@@ -25,24 +27,55 @@ pub(crate) fn push_entry_lines(out: &mut Vec<u8>, journal: &[Entry]) -> Result<(
 pub fn push_entry_line(out: &mut Vec<u8>, number: u64, entry: &Entry) -> Result<(), AllocError>
     ensures line { OnOk result (out.new.items ≡ out.old.items ++ entry_line number entry.now) }
 {
-    push_parts(out, &[Part::Decimal(number), Part::Text(b" ")])?;
+    push_decimal(out, number)?;
     push_agent(out, entry.agent)?;
-    push_text(out, b" ")?;
     push_op(out, entry.op)?;
     push_text(out, b" :")?;
     push_outcomes(out, entry.outcomes.as_slice())?;
-    push_text(out, b"\n")?;
+    out.push(b'\n')?;
     Ok(())
 }
 
+// between spaces
 fn push_agent(out: &mut Vec<u8>, agent: Agent) -> Result<(), AllocError>
-    ensures { OnOk result (out.new.items ≡ out.old.items ++ agent_text agent) }
+    ensures { OnOk result (out.new.items ≡ out.old.items ++ codes " " ++ agent_text agent ++ codes " ") }
 {
     match agent {
-        Agent::Cpu(id) => push_parts(out, &[Part::Text(b"cpu "), Part::Hex(2, id as u64)]),
-        Agent::Io(place) => push_parts(out, &[Part::Text(b"io "), Part::Decimal(place as u64)]),
-        Agent::Dev(number) => push_parts(out, &[Part::Text(b"dev "), Part::Decimal(number as u64)]),
+        Agent::Cpu(id) => push_cpu(out, id as u64),
+        Agent::Io(place) => push_parts(
+            out,
+            &[
+                Part::Text(b" io "),
+                Part::Decimal(place as u64),
+                Part::Text(b" "),
+            ],
+        ),
+        Agent::Dev(number) => push_parts(
+            out,
+            &[
+                Part::Text(b" dev "),
+                Part::Decimal(number as u64),
+                Part::Text(b" "),
+            ],
+        ),
     }
+}
+
+// a processor, in one piece
+#[tactic(auto, using(crate::proofs::DigitLemmas::two_digits))]
+fn push_cpu(out: &mut Vec<u8>, id: u64) -> Result<(), AllocError>
+    ensures { OnOk result (out.new.items ≡ out.old.items ++ codes " cpu " ++ hex 2 id ++ codes " ") }
+{
+    out.extend_from_slice(&[
+        b' ',
+        b'c',
+        b'p',
+        b'u',
+        b' ',
+        digit(id / 16),
+        digit(id),
+        b' ',
+    ])
 }
 
 fn push_op(out: &mut Vec<u8>, op: Op) -> Result<(), AllocError>
@@ -50,43 +83,19 @@ fn push_op(out: &mut Vec<u8>, op: Op) -> Result<(), AllocError>
 {
     match op {
         Op::Imcr => push_text(out, b"imcr"),
-        Op::Warm(page) => push_parts(out, &[Part::Text(b"warm "), Part::Hex(2, page as u64)]),
-        Op::Init(id) => push_parts(out, &[Part::Text(b"init "), Part::Hex(2, id as u64)]),
-        Op::Startup(id, page) => push_parts(
-            out,
-            &[
-                Part::Text(b"startup "),
-                Part::Hex(2, id as u64),
-                Part::Text(b" "),
-                Part::Hex(2, page as u64),
-            ],
-        ),
-        Op::Check(id) => push_parts(out, &[Part::Text(b"check "), Part::Hex(2, id as u64)]),
-        Op::Ipi(id, vector) => push_parts(
-            out,
-            &[
-                Part::Text(b"ipi "),
-                Part::Hex(2, id as u64),
-                Part::Text(b" "),
-                Part::Hex(2, vector as u64),
-            ],
-        ),
-        Op::Ipl(dest, vector) => push_parts(
-            out,
-            &[
-                Part::Text(b"ipl "),
-                Part::Hex(2, dest as u64),
-                Part::Text(b" "),
-                Part::Hex(2, vector as u64),
-            ],
-        ),
-        Op::Nmi(id) => push_parts(out, &[Part::Text(b"nmi "), Part::Hex(2, id as u64)]),
+        Op::Warm(page) => push_named(out, b"warm ", page as u64),
+        Op::Init(id) => push_named(out, b"init ", id as u64),
+        Op::Startup(id, page) => push_pair(out, b"startup ", id as u64, page as u64),
+        Op::Check(id) => push_named(out, b"check ", id as u64),
+        Op::Ipi(id, vector) => push_pair(out, b"ipi ", id as u64, vector as u64),
+        Op::Ipl(dest, vector) => push_pair(out, b"ipl ", dest as u64, vector as u64),
+        Op::Nmi(id) => push_named(out, b"nmi ", id as u64),
         Op::Take => push_text(out, b"take"),
         Op::Poll => push_text(out, b"poll"),
         Op::Eoi => push_text(out, b"eoi"),
-        Op::Tpr(priority) => push_parts(out, &[Part::Text(b"tpr "), Part::Hex(2, priority as u64)]),
-        Op::Ldr(dest) => push_parts(out, &[Part::Text(b"ldr "), Part::Hex(2, dest as u64)]),
-        Op::Dfr(model) => push_parts(out, &[Part::Text(b"dfr "), Part::Hex(2, model as u64)]),
+        Op::Tpr(priority) => push_named(out, b"tpr ", priority as u64),
+        Op::Ldr(dest) => push_named(out, b"ldr ", dest as u64),
+        Op::Dfr(model) => push_named(out, b"dfr ", model as u64),
         Op::IoSel(place, index) => push_parts(
             out,
             &[
@@ -130,10 +139,41 @@ fn push_op(out: &mut Vec<u8>, op: Op) -> Result<(), AllocError>
             ],
         ),
         Op::End => push_text(out, b"end"),
-        Op::Collect(pins) => push_parts(out, &[Part::Text(b"collect "), Part::Hex(6, pins as u64)]),
+        Op::Collect(pins) => push_collect(out, pins as u64),
         Op::Send(pin) => push_parts(out, &[Part::Text(b"send "), Part::Decimal(pin as u64)]),
         Op::Sweep => push_text(out, b"sweep"),
     }
+}
+
+// a name and a byte
+fn push_named(out: &mut Vec<u8>, name: &[u8], byte: u64) -> Result<(), AllocError>
+    ensures { OnOk result (out.new.items ≡ out.old.items ++ concat (name.now ∷ hex 2 byte ∷ [])) }
+{
+    push_text(out, name)?;
+    push_two(out, byte)
+}
+
+// a name and two bytes
+#[tactic(auto, using(crate::proofs::DigitLemmas::two_digits))]
+fn push_pair(out: &mut Vec<u8>, name: &[u8], one: u64, other: u64) -> Result<(), AllocError>
+    ensures { OnOk result (out.new.items ≡ out.old.items ++ concat (name.now ∷ hex 2 one ∷ codes " " ∷ hex 2 other ∷ [])) }
+{
+    push_text(out, name)?;
+    out.extend_from_slice(&[
+        digit(one / 16),
+        digit(one),
+        b' ',
+        digit(other / 16),
+        digit(other),
+    ])
+}
+
+// a collection of pins
+fn push_collect(out: &mut Vec<u8>, pins: u64) -> Result<(), AllocError>
+    ensures { OnOk result (out.new.items ≡ out.old.items ++ concat (codes "collect " ∷ hex 6 pins ∷ [])) }
+{
+    push_text(out, b"collect ")?;
+    push_six(out, pins)
 }
 
 fn push_outcomes(out: &mut Vec<u8>, outcomes: &[Outcome]) -> Result<(), AllocError>
@@ -149,17 +189,20 @@ fn push_outcomes(out: &mut Vec<u8>, outcomes: &[Outcome]) -> Result<(), AllocErr
 fn push_further_outcome(out: &mut Vec<u8>, outcome: Outcome) -> Result<(), AllocError>
     ensures { OnOk result (out.new.items ≡ out.old.items ++ further_outcome outcome) }
 {
-    push_text(out, b" ")?;
-    push_outcome(out, outcome)
-}
-
-fn push_outcome(out: &mut Vec<u8>, outcome: Outcome) -> Result<(), AllocError>
-    ensures { OnOk result (out.new.items ≡ out.old.items ++ outcome_text outcome) }
-{
     if has_target(outcome.what) {
-        push_parts(out, &[Part::Hex(2, outcome.at as u64), Part::Text(b"=")])?;
+        push_target(out, outcome.at as u64)?;
+    } else {
+        out.push(b' ')?;
     }
     push_what(out, outcome.what)
+}
+
+// a target, in one piece
+#[tactic(auto, using(crate::proofs::DigitLemmas::two_digits))]
+fn push_target(out: &mut Vec<u8>, id: u64) -> Result<(), AllocError>
+    ensures { OnOk result (out.new.items ≡ out.old.items ++ codes " " ++ hex 2 id ++ codes "=") }
+{
+    out.extend_from_slice(&[b' ', digit(id / 16), digit(id), b'='])
 }
 
 // whether it came so at a target
@@ -183,10 +226,11 @@ fn has_target(what: What) -> bool
     }
 }
 
+// behind a point
 fn trigger_text(level: bool) -> &'static [u8]
-    ensures { result.now ≡ trigger_text level }
+    ensures { result.now ≡ codes "." ++ trigger_text level }
 {
-    if level { b"level" } else { b"edge" }
+    if level { b".level" } else { b".edge" }
 }
 
 fn push_what(out: &mut Vec<u8>, what: What) -> Result<(), AllocError>
@@ -200,42 +244,38 @@ fn push_what(out: &mut Vec<u8>, what: What) -> Result<(), AllocError>
         What::Asleep => push_text(out, b"asleep"),
         What::Absent => push_text(out, b"absent"),
         What::Waiting => push_text(out, b"waiting"),
-        What::Started(page) => push_parts(
-            out,
-            &[Part::Text(b"started."), Part::Hex(2, page as u64)],
-        ),
+        What::Started(page) => push_named(out, b"started.", page as u64),
         What::Ignored => push_text(out, b"ignored"),
         What::Nmi => push_text(out, b"nmi"),
         What::Passed => push_text(out, b"passed"),
         What::Unheard => push_text(out, b"unheard"),
-        What::Runs(page) => push_parts(out, &[Part::Text(b"runs."), Part::Hex(2, page as u64)]),
+        What::Runs(page) => push_named(out, b"runs.", page as u64),
         What::RunsFirst => push_text(out, b"runs.first"),
-        What::Taken(vector) => push_parts(
-            out,
-            &[Part::Text(b"taken."), Part::Hex(2, vector as u64)],
-        ),
+        What::Taken(vector) => push_named(out, b"taken.", vector as u64),
         What::Nothing => push_text(out, b"nothing"),
-        What::Ended(vector, level) => push_parts(
-            out,
-            &[
-                Part::Text(b"ended."),
-                Part::Hex(2, vector as u64),
-                Part::Text(b"."),
-                Part::Text(trigger_text(level)),
-            ],
-        ),
+        What::Ended(vector, level) => push_ended(out, vector as u64, level),
         What::Plain => push_text(out, b"plain"),
         What::Due => push_text(out, b"due"),
         What::Withdrawn => push_text(out, b"withdrawn"),
         What::Read(value) => push_parts(out, &[Part::Text(b"read."), Part::Hex(8, value as u64)]),
-        What::Pins(due, joined) => push_parts(
-            out,
-            &[
-                Part::Text(b"pins."),
-                Part::Hex(6, due as u64),
-                Part::Text(b"."),
-                Part::Hex(6, joined as u64),
-            ],
-        ),
+        What::Pins(due, joined) => push_pins(out, due as u64, joined as u64),
     }
+}
+
+// the end of an interrupt
+fn push_ended(out: &mut Vec<u8>, vector: u64, level: bool) -> Result<(), AllocError>
+    ensures { OnOk result (out.new.items ≡ out.old.items ++ concat (codes "ended." ∷ hex 2 vector ∷ codes "." ∷ trigger_text level ∷ [])) }
+{
+    push_named(out, b"ended.", vector)?;
+    push_text(out, trigger_text(level))
+}
+
+// the pins of a collection
+fn push_pins(out: &mut Vec<u8>, due: u64, joined: u64) -> Result<(), AllocError>
+    ensures { OnOk result (out.new.items ≡ out.old.items ++ concat (codes "pins." ∷ hex 6 due ∷ codes "." ∷ hex 6 joined ∷ [])) }
+{
+    push_text(out, b"pins.")?;
+    push_six(out, due)?;
+    push_text(out, b".")?;
+    push_six(out, joined)
 }

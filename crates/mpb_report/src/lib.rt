@@ -2,6 +2,7 @@
 //! text of lines. The format is this project's own.
 #![tactic(auto)]
 
+mod digits;
 mod entry_lines;
 mod laws;
 mod log_lines;

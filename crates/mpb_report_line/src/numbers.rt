@@ -6,7 +6,11 @@ ghost use Rattle.mpb_report_line.specs.Lines.{entry_count_line};
 ghost use Rattle.mpb_report_line.specs.Reading.{is_decimal_digit, decimal_digit_in, more_digits, held, held_in, up_to_in, number_in, place_in};
 ghost use Rattle.mpb_report_line.specs.Forms.{entry_count_in};
 
+use mpb_spec::PINS;
 use mpt_line::{read_end, read_part};
+
+// the last pin of an I/O APIC
+const LAST_PIN: u32 = PINS as u32 - 1;
 
 /// How many entries the line says that begins the text, held at the end of u64, and what follows the
 /// line; `None` exactly where the text begins with no such line.
@@ -88,7 +92,7 @@ pub(crate) fn read_up_to<'a>(line: &'a [u8], most: u32, stop: &[u8]) -> Option<(
 pub(crate) fn read_pin<'a>(line: &'a [u8], stop: &[u8]) -> Option<(u8, &'a [u8])>
     ensures { Gives (λ x. (x.0, x.1.now)) result (up_to_in 23 stop.now line.now) }
 {
-    let (pin, rest) = read_up_to(line, 23, stop)?;
+    let (pin, rest) = read_up_to(line, LAST_PIN, stop)?;
     Some((pin as u8, rest))
 }
 

@@ -236,5 +236,5 @@ fn read_pause(line: &[u8]) -> Option<(u32, &[u8])>
     ensures { Gives (λ x. (x.0, x.1.now)) result (after (codes "pause ") (up_to_in 4294967295 colon) line.now) }
 {
     let rest = read_part(line, b"pause ")?;
-    read_up_to(rest, 4_294_967_295, b" :")
+    read_up_to(rest, u32::MAX, b" :")
 }

@@ -6,7 +6,7 @@ ghost use Rattle.mpb_spec.specs.State.{change_at};
 ghost use Rattle.mpb_spec.specs.Pulses.{with_pins};
 
 use mpb_latch::add_pins;
-use mpb_spec::{DevWord, Hit, Pulse};
+use mpb_spec::{DevWord, Hit, PINS, Pulse};
 use std::alloc::{AllocError, Global};
 
 /// The device has done one thing more.
@@ -66,7 +66,7 @@ pub(crate) fn no_counts(alloc: Global, n: usize) -> Result<Vec<Vec<u32>>, AllocE
 {
     let mut counts = Vec::new(alloc);
     for _ in 0..n {
-        counts.push(vec![in alloc; 0; 24]?)?;
+        counts.push(vec![in alloc; 0; usize::from(PINS)]?)?;
     }
     Ok(counts)
 }

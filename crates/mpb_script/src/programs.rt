@@ -9,7 +9,7 @@ ghost use Rattle.mpb_script.specs.Steps.{word_count, wrong_word, wrong_cpu_word,
 use crate::document::{elements_at, number_at, text};
 use crate::script::{CpuScript, ScriptFault};
 use mpb_spec::{Agent, DevWord, Op};
-use mpb_words::{Stop, read_cpu_word, read_device_word};
+use mpb_words::{read_cpu_word, read_device_word};
 use mpt_spec::Sequence;
 use std::alloc::Global;
 use toml::Value;
@@ -44,17 +44,16 @@ fn cpu_program(alloc: Global, agent: Agent, words: &[Value]) -> Result<Sequence<
 {
     let mut program = Vec::new(alloc);
     for (index, word) in words.iter().enumerate() {
-        match read_cpu_word(alloc, text(word)) {
+        match read_cpu_word(text(word)) {
             Ok(op) => match program.push(op) {
                 Ok(()) => {}
                 Err(_) => return Err(ScriptFault::NoMemory),
             },
-            Err(Stop::Wrong(why)) => return Err(ScriptFault::Word {
+            Err(why) => return Err(ScriptFault::Word {
                 agent,
                 index: index as u32,
                 why,
             }),
-            Err(Stop::NoMemory) => return Err(ScriptFault::NoMemory),
         }
     }
     Ok(Sequence::new(program))
@@ -72,17 +71,16 @@ fn device_program(
 {
     let mut program = Vec::new(alloc);
     for (index, word) in words.iter().enumerate() {
-        match read_device_word(alloc, text(word)) {
+        match read_device_word(text(word)) {
             Ok(op) => match program.push(op) {
                 Ok(()) => {}
                 Err(_) => return Err(ScriptFault::NoMemory),
             },
-            Err(Stop::Wrong(why)) => return Err(ScriptFault::Word {
+            Err(why) => return Err(ScriptFault::Word {
                 agent,
                 index: index as u32,
                 why,
             }),
-            Err(Stop::NoMemory) => return Err(ScriptFault::NoMemory),
         }
     }
     Ok(Sequence::new(program))

@@ -1,15 +1,15 @@
 -- Digits that are read one by one, in a number that is held at the end of u64.
-use Rattle.std.proofs.Common.{◌≡◌, ℕ, ◌+◌, ◌*◌, ◌<◌, ◌≤◌, min, Bool, true, false, cond, ◌&&◌, List, [], ◌∷◌, length, drop, get_or, Option, Some, None, option_map, Result, Ok, Err, nat_le, refl, sym, ap, ◌∙◌, arith, inl, inr}
+use Rattle.std.proofs.Common.{◌≡◌, ◌≢◌, ◌==◌, ℕ, ◌+◌, ◌*◌, ◌<◌, ◌≤◌, min, Bool, true, false, cond, ◌&&◌, List, [], ◌∷◌, length, drop, get_or, Option, Some, None, option_map, map, Result, Ok, Err, nat_le, refl, sym, ap, ◌∙◌, arith, inl, inr}
 use Rattle.std.proofs.Math.Nat.{mul-le-mul_left}
-use Rattle.std.proofs.lemmas.Bool.{cases_lt, false≢true, lt-ltb, le-ltb}
-use Rattle.std.proofs.lemmas.List.{at_drop_more, at_drop_all}
+use Rattle.std.proofs.lemmas.Bool.{cases_lt, false≢true, lt-ltb, le-ltb, ne_eqb}
+use Rattle.std.proofs.lemmas.List.{at_drop_more, at_drop_all, length-map}
 use Rattle.std.specs.List.{list_all}
 use Rattle.std.specs.Char.{is_digit, digit_value}
 use Rattle.std.specs.Str.Parse.{digits_value_after}
 use Rattle.mpb_words.specs.declared.refusal.WordWhy.{WordWhy}
 use Rattle.mpb_words.specs.declared.refusal.WordWhy.TheVariants as why
 use Rattle.mpb_words.specs.Numbers.{digits_number, judged, number_of, numbers_of}
-use Rattle.mpb_words.specs.Steps.{held, number_up_to, part_number, both}
+use Rattle.mpb_words.specs.Steps.{held, number_up_to, both}
 
 -- the number that these digits write after n
 abbrev pub digits_after : ℕ → ℕ → List ℕ → Option ℕ
@@ -104,15 +104,15 @@ judged-one : (m : ℕ) (a : Option ℕ) → both (number_up_to m a) (Ok 0) ≡ j
 judged-one m None = refl
 judged-one m (Some x) = one_range (nat_le x m) x
 
--- the same of all parts and limits
-pub numbers_of-both : (limits : List ℕ) (parts : List (List ℕ)) → length limits ≤ 2 → length parts ≡ length limits → both (part_number limits parts 0) (part_number limits parts 1) ≡ numbers_of limits parts
-numbers_of-both [] [] few same = refl
-numbers_of-both [] (p ∷ ps) few same = absurd (omega arith)
-numbers_of-both (l ∷ []) [] few same = absurd (omega arith)
-numbers_of-both (l ∷ []) (p ∷ []) few same = judged-one l (number_of p)
-numbers_of-both (l ∷ []) (p ∷ q ∷ ps) few same = absurd (omega arith)
-numbers_of-both (l ∷ m ∷ []) [] few same = absurd (omega arith)
-numbers_of-both (l ∷ m ∷ []) (p ∷ []) few same = absurd (omega arith)
-numbers_of-both (l ∷ m ∷ []) (p ∷ q ∷ []) few same = judged-two l m (number_of p) (number_of q)
-numbers_of-both (l ∷ m ∷ []) (p ∷ q ∷ r ∷ ps) few same = absurd (omega arith)
-numbers_of-both (l ∷ m ∷ k ∷ ls) parts few same = absurd (omega arith)
+-- the same of parts
+pub one_number_of : (most : ℕ) (part : List ℕ) → both (number_up_to most (number_of part)) (Ok 0) ≡ numbers_of (most ∷ []) (part ∷ [])
+one_number_of most part = judged-one most (number_of part)
+
+pub two_numbers_of : (first second : ℕ) (one other : List ℕ) → both (number_up_to first (number_of one)) (number_up_to second (number_of other)) ≡ numbers_of (first ∷ second ∷ []) (one ∷ other ∷ [])
+two_numbers_of first second one other = judged-two first second (number_of one) (number_of other)
+
+-- another count of parts than of limits
+pub wrong_count : (limits : List ℕ) (parts : List (List ℕ)) → length parts ≢ length limits → numbers_of limits parts ≡ Err why.Count
+wrong_count limits parts differ =
+    let other : (length (map number_of parts) == length limits) ≡ false = ne_eqb _ _ (λ e. differ (sym (length-map parts number_of) ∙ e)) in
+    rw other refl

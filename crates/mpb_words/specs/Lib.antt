@@ -1,5 +1,4 @@
 pub mod Numbers
 pub mod Words
 pub mod Values
-pub mod Answers
 pub mod Steps

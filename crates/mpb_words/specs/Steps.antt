@@ -1,6 +1,6 @@
--- What steps of the reader of numbers give. Only private functions cite it.
-use Rattle.std.specs.Prelude.{ℕ, min, nat_le, nat_lt, List, [], length, get_or, Option, Some, None, if◌then◌else◌, Result, Ok, Err}
-use Rattle.mpb_words.specs.Numbers.{number_of}
+-- What steps of the readers of parts and of numbers give. Only private functions cite it.
+use Rattle.std.specs.Prelude.{ℕ, min, nat_le, List, [], Option, Some, None, if◌then◌else◌, Result, Ok, Err}
+use Rattle.mpb_words.specs.Words.{parts_of}
 use Rattle.mpb_words.specs.declared.refusal.WordWhy.{WordWhy}
 use Rattle.mpb_words.specs.declared.refusal.WordWhy.TheVariants as why
 
@@ -13,9 +13,10 @@ abbrev pub number_up_to : ℕ → Option ℕ → Result ℕ WordWhy
 number_up_to most None = Err why.Number
 number_up_to most (Some n) = if nat_le n most then Ok n else Err why.Range
 
--- the number at a place, 0 past the end
-abbrev pub part_number : List ℕ → List (List ℕ) → ℕ → Result ℕ WordWhy
-part_number limits parts place = if nat_lt place (length limits) then number_up_to (get_or limits place 0) (number_of (get_or parts place [])) else Ok 0
+-- the parts behind the first one: none, where no space follows it
+abbrev pub parts_behind : Option (List ℕ) → List (List ℕ)
+parts_behind None = []
+parts_behind (Some rest) = parts_of rest
 
 -- two numbers: a part that is no number comes before one that is out of its range
 abbrev pub both : Result ℕ WordWhy → Result ℕ WordWhy → Result (ℕ × ℕ) WordWhy

@@ -2,10 +2,11 @@
 //! format).
 #![tactic(auto)]
 
+mod cut;
 mod meaning;
 mod names;
 mod numbers;
 mod refusal;
 
 pub use meaning::{read_cpu_word, read_device_word};
-pub use refusal::{Stop, WordWhy};
+pub use refusal::WordWhy;

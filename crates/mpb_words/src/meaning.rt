@@ -1,24 +1,16 @@
 //! What a word says.
 
-ghost use Rattle.std.specs.Prelude.{◌≡◌, ◌≤◌, Ok, IfOk, IfErr, map, slice_index};
-ghost use Rattle.mpb_words.specs.Words.{parts_of, cpu_op_of, cpu_op_in, cpu_op, cpu_limits, device_word_of, device_word_in, device_word, device_limits};
+ghost use Rattle.std.specs.Prelude.{◌≡◌, ◌≤◌, IfOk, slice_index};
+ghost use Rattle.mpb_words.specs.Words.{cpu_op_of, cpu_op, cpu_limits, device_word_of, device_word, device_limits};
 ghost use Rattle.mpb_words.specs.Values.{IsCpuWord, IsDeviceWord};
-ghost use Rattle.mpb_words.specs.Answers.{IsCauseOf};
 
+use crate::cut::cut;
 use crate::names::{
     CpuName, DeviceName, cpu_limits, cpu_name, device_limits, device_name, is_in_range,
 };
 use crate::numbers::numbers;
-use crate::refusal::{Stop, WordWhy};
+use crate::refusal::WordWhy;
 use mpb_spec::{DevWord, Op};
-use std::alloc::{AllocError, Global};
-
-// a word, cut at each of its spaces
-fn parts(alloc: Global, word: &str) -> Result<Vec<&str>, AllocError>
-    ensures { IfOk result (λ v. map (λ part. part.now) v.items ≡ parts_of word.now) }
-{
-    word.split(' ').collect(alloc)
-}
 
 /// Reads a word of a processor.
 ///
@@ -29,41 +21,25 @@ fn parts(alloc: Global, word: &str) -> Result<Vec<&str>, AllocError>
 ///
 /// # Errors
 ///
-/// The first of the causes for which the word is wrong, or want of memory for its parts.
+/// The first of the causes for which the word is wrong.
 #[tactic(auto, unfolding(crate::specs::Words::cpu_op_of))]
-pub fn read_cpu_word(alloc: Global, word: &str) -> Result<Op, Stop>
-    ensures says { IfOk result (λ op. cpu_op_of word.now ≡ Ok op) }
+pub fn read_cpu_word(word: &str) -> Result<Op, WordWhy>
+    ensures says { result ≡ cpu_op_of word.now }
     ensures values { IfOk result IsCpuWord }
-    ensures refused { IfErr result (IsCauseOf (cpu_op_of word.now)) }
 {
-    match parts(alloc, word) {
-        Ok(parts) => match cpu_op(parts.as_slice()) {
-            Ok(op) => Ok(op),
-            Err(why) => Err(Stop::Wrong(why)),
-        },
-        Err(_) => Err(Stop::NoMemory),
-    }
-}
-
-// what the parts of a processor's word say
-fn cpu_op(parts: &[&str]) -> Result<Op, WordWhy>
-    ensures { result ≡ cpu_op_in (map (λ part. part.now) parts.now) }
-{
-    match parts {
-        [text, rest @ ..] => match cpu_name(text) {
-            Some(name) => match numbers(rest, cpu_limits(name)) {
-                Ok((a, b)) => {
-                    if is_in_range(name, a) {
-                        Ok(named_op(name, a, b))
-                    } else {
-                        Err(WordWhy::Range)
-                    }
+    let (text, rest) = cut(word);
+    match cpu_name(text) {
+        Some(name) => match numbers(rest, cpu_limits(name)) {
+            Ok((a, b)) => {
+                if is_in_range(name, a) {
+                    Ok(named_op(name, a, b))
+                } else {
+                    Err(WordWhy::Range)
                 }
-                Err(why) => Err(why),
-            },
-            None => Err(WordWhy::Name),
+            }
+            Err(why) => Err(why),
         },
-        [] => Err(WordWhy::Name),
+        None => Err(WordWhy::Name),
     }
 }
 
@@ -98,35 +74,19 @@ fn named_op(name: CpuName, a: u32, b: u32) -> Op
 ///
 /// # Errors
 ///
-/// The first of the causes for which the word is wrong, or want of memory for its parts.
+/// The first of the causes for which the word is wrong.
 #[tactic(auto, unfolding(crate::specs::Words::device_word_of))]
-pub fn read_device_word(alloc: Global, word: &str) -> Result<DevWord, Stop>
-    ensures says { IfOk result (λ said. device_word_of word.now ≡ Ok said) }
+pub fn read_device_word(word: &str) -> Result<DevWord, WordWhy>
+    ensures says { result ≡ device_word_of word.now }
     ensures values { IfOk result IsDeviceWord }
-    ensures refused { IfErr result (IsCauseOf (device_word_of word.now)) }
 {
-    match parts(alloc, word) {
-        Ok(parts) => match device_word(parts.as_slice()) {
-            Ok(word) => Ok(word),
-            Err(why) => Err(Stop::Wrong(why)),
+    let (text, rest) = cut(word);
+    match device_name(text) {
+        Some(name) => match numbers(rest, device_limits(name)) {
+            Ok((a, b)) => Ok(named_word(name, a, b)),
+            Err(why) => Err(why),
         },
-        Err(_) => Err(Stop::NoMemory),
-    }
-}
-
-// what the parts of a device's word say
-fn device_word(parts: &[&str]) -> Result<DevWord, WordWhy>
-    ensures { result ≡ device_word_in (map (λ part. part.now) parts.now) }
-{
-    match parts {
-        [text, rest @ ..] => match device_name(text) {
-            Some(name) => match numbers(rest, device_limits(name)) {
-                Ok((a, b)) => Ok(named_word(name, a, b)),
-                Err(why) => Err(why),
-            },
-            None => Err(WordWhy::Name),
-        },
-        [] => Err(WordWhy::Name),
+        None => Err(WordWhy::Name),
     }
 }
 

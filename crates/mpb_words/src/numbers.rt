@@ -1,9 +1,11 @@
 //! The numbers of a word.
 
-ghost use Rattle.std.specs.Prelude.{◌≡◌, ◌≤◌, IfOk, map, option_map, length, slice_index};
+ghost use Rattle.std.specs.Prelude.{◌≡◌, ◌≤◌, ◌∷◌, [], IfOk, option_copied, option_map, length, slice_index};
+ghost use Rattle.mpb_words.specs.Words.{parts_of};
 ghost use Rattle.mpb_words.specs.Numbers.{digits_number, number_of, numbers_of};
-ghost use Rattle.mpb_words.specs.Steps.{held, number_up_to, part_number, both};
+ghost use Rattle.mpb_words.specs.Steps.{held, parts_behind, number_up_to, both};
 
+use crate::cut::cut;
 use crate::refusal::WordWhy;
 
 // the number that digits write, held at the end of u64; none, where there is no digit or another byte
@@ -62,29 +64,52 @@ fn number_up_to(part: &str, most: u32) -> Result<u32, WordWhy>
     }
 }
 
-// the number at a place among the parts and its limit, 0 past their end
-fn part_number(parts: &[&str], limits: &[u32], place: usize) -> Result<u32, WordWhy>
-    requires { length parts.now ≡ length limits.now }
-    ensures value { result ≡ part_number limits.now (map (λ part. part.now) parts.now) place }
-    ensures limit { IfOk result (λ n. n ≤ slice_index limits.now place) }
+// the numbers behind a word's name, where its places have these greatest values, 0 past their end; or why they aren't
+pub(crate) fn numbers(rest: Option<&str>, limits: &[u32]) -> Result<(u32, u32), WordWhy>
+    requires { length limits.now ≤ 2 }
+    ensures value { result ≡ numbers_of limits.now (parts_behind (option_copied rest.entry)) }
+    ensures limit { IfOk result (λ p. (p.0 ≤ slice_index limits.now 0) × (p.1 ≤ slice_index limits.now 1)) }
 {
-    if place < limits.len() {
-        number_up_to(parts[place], limits[place])
-    } else {
-        Ok(0)
+    match rest {
+        Some(rest) => match *limits {
+            [most] => one_number(rest, most),
+            [first, second] => two_numbers(rest, first, second),
+            _ => Err(WordWhy::Count),
+        },
+        None => {
+            if limits.is_empty() {
+                Ok((0, 0))
+            } else {
+                Err(WordWhy::Count)
+            }
+        }
     }
 }
 
-// the numbers of a word with these greatest values, 0 past their end; or why they aren't
-pub(crate) fn numbers(parts: &[&str], limits: &[u32]) -> Result<(u32, u32), WordWhy>
-    requires { length limits.now ≤ 2 }
-    ensures value { result ≡ numbers_of limits.now (map (λ part. part.now) parts.now) }
-    ensures limit { IfOk result (λ p. (p.0 ≤ slice_index limits.now 0) × (p.1 ≤ slice_index limits.now 1)) }
+// the one number of a text, up to its greatest value, and 0
+fn one_number(text: &str, most: u32) -> Result<(u32, u32), WordWhy>
+    ensures value { result ≡ numbers_of (most ∷ []) (parts_of text.now) }
+    ensures limit { IfOk result (λ p. (p.0 ≤ most) × (p.1 ≡ 0)) }
 {
-    if parts.len() != limits.len() {
-        return Err(WordWhy::Count);
+    match cut(text) {
+        (part, None) => both(number_up_to(part, most), Ok(0)),
+        (_, Some(_)) => Err(WordWhy::Count),
     }
-    both(part_number(parts, limits, 0), part_number(parts, limits, 1))
+}
+
+// the two numbers of a text, up to their greatest values
+fn two_numbers(text: &str, first: u32, second: u32) -> Result<(u32, u32), WordWhy>
+    ensures value { result ≡ numbers_of (first ∷ second ∷ []) (parts_of text.now) }
+    ensures limit { IfOk result (λ p. (p.0 ≤ first) × (p.1 ≤ second)) }
+{
+    let (one, rest) = cut(text);
+    let Some(rest) = rest else {
+        return Err(WordWhy::Count);
+    };
+    match cut(rest) {
+        (other, None) => both(number_up_to(one, first), number_up_to(other, second)),
+        (_, Some(_)) => Err(WordWhy::Count),
+    }
 }
 
 // two numbers, or the first cause why they aren't

@@ -12,12 +12,3 @@ pub enum WordWhy {
     /// A number is above the greatest of its place.
     Range,
 }
-
-/// Why a word has no meaning to give.
-#[derive(Clone, Copy)]
-pub enum Stop {
-    /// The word is wrong.
-    Wrong(WordWhy),
-    /// Memory ran out for the word's parts.
-    NoMemory,
-}

@@ -7,13 +7,20 @@ ghost use Rattle.mpf_pic.specs.Wiring.{is_local_extint, sends_extint, is_extint_
 
 use mpb_board::Board;
 use mpb_ioapic::IoApic;
-use mpt_spec::IntEntry;
+use mpb_spec::{ENTRY_TO_ALL, PINS};
+use mpt_spec::{ALL_APICS, IntEntry};
+
+// ExtINT, as the kind of an interrupt in the tables (MultiProcessor Specification 1.4, section 4.3.5)
+const EXTINT_KIND: u8 = 3;
+
+// ExtINT, as the delivery mode of an entry of an I/O APIC (82093AA datasheet, section 3.2.4)
+const EXTINT_MODE: u32 = 7;
 
 /// Whether a local interrupt is an ExtINT at LINTIN 0, to this processor or to all.
 pub(crate) fn has_local_extint(lints: &[IntEntry], boot: u8) -> bool
     ensures { result ≡ list_any (is_local_extint boot) lints.now }
 {
-    lints.iter().any(|e| e.kind == 3 && e.pin == 0 && (e.dest == boot || e.dest == 255))
+    lints.iter().any(|e| e.kind == EXTINT_KIND && e.pin == 0 && (e.dest == boot || e.dest == ALL_APICS))
 }
 
 // Whether an entry of these halves sends ExtINT to this processor.
@@ -21,17 +28,17 @@ fn sends_extint(low: u32, high: u32, boot: u8) -> bool
     ensures { result ≡ sends_extint boot low high }
 {
     let dest = high / 16_777_216 % 16;
-    low / 256 % 8 == 7
+    low / 256 % 8 == EXTINT_MODE
         && low / 65_536 % 2 != 1
         && low / 2048 % 2 != 1
-        && (dest == u32::from(boot) || dest == 15)
+        && (dest == u32::from(boot) || dest == u32::from(ENTRY_TO_ALL))
 }
 
 // The least pin of an I/O APIC that sends ExtINT to this processor.
 fn extint_pin_of(chip: &IoApic, boot: u8) -> Option<u8>
     ensures { result ≡ find (λ n. is_extint_pin boot (slice_get chip.now.pins n)) (range_with_len 0 24) }
 {
-    (0..24).find(|pin| is_extint_pin(chip, *pin, boot))
+    (0..PINS).find(|pin| is_extint_pin(chip, *pin, boot))
 }
 
 // Whether a pin sends ExtINT to this processor.

@@ -1,6 +1,5 @@
-use Rattle.std.proofs.Common.{◌≡◌, List, Some, map, Ok, Err, sym, ap, ◌∙◌, inr, subst}
+use Rattle.std.proofs.Common.{◌≡◌, List, map, Ok, Err, sym, ap, ◌∙◌, inr, subst}
 use Rattle.mpb_spec.specs.declared.config.DevWord.{DevWord}
-use Rattle.mpb_script.specs.declared.script.ScriptFault.TheVariants as fault
 use Rattle.mpb_script.specs.Steps.{IsProgram}
 use Rattle.toml.specs.View.{view}
 use Rattle.mpb_script.specs.Document.{text_of}
@@ -14,18 +13,18 @@ loop-index-preserved c =
     let i = c.loop-index.index in
     let v = c.index-words-index.result in
     let op = c.in-Ok.op in
-    let says : device_word_of (text_of (view v)) ≡ Ok op = ap device_word_of (sym c.text.ensures) ∙ c.in-Ok.ensures.says in (
+    let says : device_word_of (text_of (view v)) ≡ Ok op = ap device_word_of (sym c.text.ensures) ∙ sym c.in-Ok.ensures.says in (
       said_on device_word_of words i v op c.loop-index.program.items c.loop-index-test.true c.index-words-index.is says c.loop-index.invariant.0 ∙ ap (map Ok) (sym c.in-Ok-push.ensures.items),
       sym (wrong_word-on device_word_of c.args.agent words i v op c.loop-index-test.true c.index-words-index.is says) ∙ c.loop-index.invariant.1,
     )
 
-pub returns-in-Err-Wrong-clause-wrong : goal.returns-in-Err-Wrong-clause-wrong
-returns-in-Err-Wrong-clause-wrong c =
+pub returns-in-Err-clause-wrong : goal.returns-in-Err-clause-wrong
+returns-in-Err-clause-wrong c =
     let words = c.args.words.now in
     let i = c.loop-index.index in
     let v = c.index-words-index.result in
-    let says : device_word_of (text_of (view v)) ≡ Err c.in-Err-Wrong.why = ap device_word_of (sym c.text.ensures) ∙ (rw c.in-Err-Wrong.field-0-is at c.in-Err-Wrong.ensures.refused) in
-    inr (sym c.loop-index.invariant.1 ∙ wrong_word-here device_word_of c.args.agent words i v c.in-Err-Wrong.why c.loop-index-test.true c.index-words-index.is says ∙ ap (λ w. Some (fault.Word c.args.agent i w)) (sym c.in-Err-Wrong.why-is))
+    let says : device_word_of (text_of (view v)) ≡ Err c.in-Err.why = ap device_word_of (sym c.text.ensures) ∙ sym c.in-Err.ensures.says in
+    inr (sym c.loop-index.invariant.1 ∙ wrong_word-here device_word_of c.args.agent words i v c.in-Err.why c.loop-index-test.true c.index-words-index.is says)
 
 pub returns-clause-program : goal.returns-clause-program
 returns-clause-program c =

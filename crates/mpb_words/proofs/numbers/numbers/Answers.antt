@@ -1,12 +1,12 @@
-use Rattle.std.proofs.Common.{◌≡◌, ℕ, List, Bor, length, map, arith}
-use Rattle.std.proofs.lemmas.List.{length-map}
-use Rattle.mpb_words.proofs.NumberLemmas.{numbers_of-both}
+use Rattle.std.proofs.Common.{Option, List, ℕ, Bor, length, option_copied, sym, ap, arith}
+use Rattle.mpb_words.specs.Steps.{parts_behind}
+use Rattle.mpb_words.proofs.NumberLemmas.{wrong_count}
+use Rattle.mpb_words.proofs.PartLemmas.{some_parts}
 use Rattle.mpb_words.proofs.numbers.numbers.Goals as goal
 
-pub returns-clause-value : goal.returns-clause-value
-returns-clause-value c =
-    let text_in : Bor (List ℕ) → List ℕ = λ part. part.now in
-    let many : length c.args.parts.now ≡ length c.args.limits.now = omega arith in
-    let same : length (map text_in c.args.parts.now) ≡ length c.args.limits.now = simp length-map many in
-    let e = numbers_of-both c.args.limits.now (map text_in c.args.parts.now) c.requires same in
-    cc
+pub returns-in_default-clause-value : goal.returns-in_default-clause-value
+returns-in_default-clause-value c =
+    let none = c.in_default.len_below in
+    let some = some_parts c.in-Some.rest.now in
+    let same = ap (λ (o : Option (Bor (List ℕ))). length (parts_behind (option_copied o))) c.in-Some.is in
+    sym (wrong_count c.args.limits.now (parts_behind (option_copied c.args.rest)) (λ e. omega (arith, none, some, same, e)))
