@@ -41,23 +41,24 @@ pub(crate) enum DeviceName {
 }
 
 // the processor's word of this name
+#[tactic(auto, using(crate::proofs::NameLemmas::name_is_ioread))]
 pub(crate) fn cpu_name(text: &str) -> Option<CpuName>
     ensures { result ≡ cpu_name_of text.now }
 {
-    match text {
-        "ipi" => Some(CpuName::Ipi),
-        "ipl" => Some(CpuName::Ipl),
-        "nmi" => Some(CpuName::Nmi),
-        "take" => Some(CpuName::Take),
-        "poll" => Some(CpuName::Poll),
-        "eoi" => Some(CpuName::Eoi),
-        "tpr" => Some(CpuName::Tpr),
-        "ldr" => Some(CpuName::Ldr),
-        "dfr" => Some(CpuName::Dfr),
-        "iosel" => Some(CpuName::IoSel),
-        "iowin" => Some(CpuName::IoWin),
-        "ioread" => Some(CpuName::IoRead),
-        "pause" => Some(CpuName::Pause),
+    match text.as_bytes() {
+        b"ipi" => Some(CpuName::Ipi),
+        b"ipl" => Some(CpuName::Ipl),
+        b"nmi" => Some(CpuName::Nmi),
+        b"take" => Some(CpuName::Take),
+        b"poll" => Some(CpuName::Poll),
+        b"eoi" => Some(CpuName::Eoi),
+        b"tpr" => Some(CpuName::Tpr),
+        b"ldr" => Some(CpuName::Ldr),
+        b"dfr" => Some(CpuName::Dfr),
+        b"iosel" => Some(CpuName::IoSel),
+        b"iowin" => Some(CpuName::IoWin),
+        b"ioread" => Some(CpuName::IoRead),
+        b"pause" => Some(CpuName::Pause),
         _ => None,
     }
 }
@@ -66,10 +67,10 @@ pub(crate) fn cpu_name(text: &str) -> Option<CpuName>
 pub(crate) fn device_name(text: &str) -> Option<DeviceName>
     ensures { result ≡ device_name_of text.now }
 {
-    match text {
-        "pulse" => Some(DeviceName::Pulse),
-        "high" => Some(DeviceName::High),
-        "low" => Some(DeviceName::Low),
+    match text.as_bytes() {
+        b"pulse" => Some(DeviceName::Pulse),
+        b"high" => Some(DeviceName::High),
+        b"low" => Some(DeviceName::Low),
         _ => None,
     }
 }
