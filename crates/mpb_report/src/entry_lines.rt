@@ -38,7 +38,7 @@ pub fn push_entry_line(out: &mut Vec<u8>, number: u64, entry: &Entry) -> Result<
 
 // between spaces
 fn push_agent(out: &mut Vec<u8>, agent: Agent) -> Result<(), AllocError>
-    ensures { OnOk result (out.new.items ≡ out.old.items ++ codes " " ++ agent_text agent ++ codes " ") }
+    ensures { OnOk result (out.new.items ≡ out.old.items ++ (codes " " ++ (agent_text agent ++ codes " "))) }
 {
     match agent {
         Agent::Cpu(id) => push_cpu(out, id as u64),
@@ -62,9 +62,8 @@ fn push_agent(out: &mut Vec<u8>, agent: Agent) -> Result<(), AllocError>
 }
 
 // a processor, in one piece
-#[tactic(auto, using(crate::proofs::DigitLemmas::two_digits))]
 fn push_cpu(out: &mut Vec<u8>, id: u64) -> Result<(), AllocError>
-    ensures { OnOk result (out.new.items ≡ out.old.items ++ codes " cpu " ++ hex 2 id ++ codes " ") }
+    ensures { OnOk result (out.new.items ≡ out.old.items ++ (codes " cpu " ++ (hex 2 id ++ codes " "))) }
 {
     out.extend_from_slice(&[
         b' ',
@@ -154,7 +153,6 @@ fn push_named(out: &mut Vec<u8>, name: &[u8], byte: u64) -> Result<(), AllocErro
 }
 
 // a name and two bytes
-#[tactic(auto, using(crate::proofs::DigitLemmas::two_digits))]
 fn push_pair(out: &mut Vec<u8>, name: &[u8], one: u64, other: u64) -> Result<(), AllocError>
     ensures { OnOk result (out.new.items ≡ out.old.items ++ concat (name.now ∷ hex 2 one ∷ codes " " ∷ hex 2 other ∷ [])) }
 {
@@ -198,9 +196,8 @@ fn push_further_outcome(out: &mut Vec<u8>, outcome: Outcome) -> Result<(), Alloc
 }
 
 // a target, in one piece
-#[tactic(auto, using(crate::proofs::DigitLemmas::two_digits))]
 fn push_target(out: &mut Vec<u8>, id: u64) -> Result<(), AllocError>
-    ensures { OnOk result (out.new.items ≡ out.old.items ++ codes " " ++ hex 2 id ++ codes "=") }
+    ensures { OnOk result (out.new.items ≡ out.old.items ++ (codes " " ++ (hex 2 id ++ codes "="))) }
 {
     out.extend_from_slice(&[b' ', digit(id / 16), digit(id), b'='])
 }
