@@ -20,7 +20,9 @@ const EXTINT_MODE: u32 = 7;
 pub(crate) fn has_local_extint(lints: &[IntEntry], boot: u8) -> bool
     ensures { result ≡ list_any (is_local_extint boot) lints.now }
 {
-    lints.iter().any(|e| e.kind == EXTINT_KIND && e.pin == 0 && (e.dest == boot || e.dest == ALL_APICS))
+    lints.iter().any(|e| e.kind == EXTINT_KIND
+        && e.pin == 0
+        && (e.dest == boot || e.dest == ALL_APICS))
 }
 
 // Whether an entry of these halves sends ExtINT to this processor.
