@@ -5,7 +5,7 @@ ghost use Rattle.std.specs.List.{range_with_len};
 ghost use Rattle.mpb_drill.specs.Drill.{takes, sends, cpus_of, pulses_of, script_of, drill_script};
 
 use mpb_script::{CpuScript, Script};
-use mpb_spec::{DevWord, Op};
+use mpb_spec::{DevWord, Op, PINS};
 use mpt_base::NoMemory;
 use mpt_spec::Sequence;
 use std::alloc::{AllocError, Global};
@@ -61,7 +61,7 @@ fn cpus_of(
     ensures { IfOk result (λ cpus. cpus.items ≡ cpus_of processors ioapics pauses) }
 {
     let mut cpus = Vec::new(alloc);
-    let words = Sequence::new(takes(alloc, 24 * ioapics + processors - 1)?);
+    let words = Sequence::new(takes(alloc, PINS * ioapics + processors - 1)?);
     cpus.push(CpuScript { id: 0, words })?;
     push_others(&mut cpus, alloc, processors - 1, pauses)?;
     Ok(cpus)
@@ -127,9 +127,9 @@ fn pulses_of(alloc: Global, ioapics: u8, devices: u8, j: u8) -> Result<Vec<DevWo
     ensures { IfOk result (λ words. words.items ≡ pulses_of ioapics devices j) }
 {
     let mut words = Vec::new(alloc);
-    for k in 0..24 * ioapics {
+    for k in 0..PINS * ioapics {
         if k % devices == j {
-            words.push(DevWord::Pulse(k / 24, k % 24))?;
+            words.push(DevWord::Pulse(k / PINS, k % PINS))?;
         }
     }
     Ok(words)

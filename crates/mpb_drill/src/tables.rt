@@ -4,6 +4,7 @@ ghost use Rattle.std.specs.Prelude.{◌≡◌, ◌<◌, ◌≤◌, ◌++◌, ◌
 ghost use Rattle.std.specs.List.{range_with_len, flat_map};
 ghost use Rattle.mpb_drill.specs.Drill.{processor, isa_bus, ioapic, interrupt, entries, tables_of, drill_tables};
 
+use mpb_spec::PINS;
 use mpt_base::NoMemory;
 use mpt_spec::{Base, Body, Bus, IntEntry, IoApic, Pointer, Processor, Sequence, Table, Tables};
 use std::alloc::{AllocError, Global};
@@ -109,7 +110,7 @@ fn interrupt(id: u8, place: u8, pin: u8) -> Base
         kind: 0,
         flags: 0x0005,
         bus: 0,
-        irq: 24 * place + pin,
+        irq: PINS * place + pin,
         dest: id,
         pin,
     })
@@ -153,7 +154,7 @@ fn push_pins(entries: &mut Vec<Base>, id: u8, place: u8) -> Result<(), AllocErro
     requires { place < 4 }
     ensures { OnOk result (entries.new.items ≡ entries.old.items ++ map (interrupt id place) (range_with_len 0 24)) }
 {
-    for pin in 0..24 {
+    for pin in 0..PINS {
         entries.push(interrupt(id, place, pin))?;
     }
     Ok(())

@@ -5,14 +5,14 @@ ghost use Rattle.std.specs.Int.{bit_at};
 ghost use Rattle.mpb_spec.specs.Pulses.{hit_of, is_on};
 ghost use Rattle.mpb_spec.specs.PlainLatch.{collected, empty_latch, pins_at, pulsed};
 
-use mpb_spec::{Hit, Pulse};
+use mpb_spec::{Hit, MOST_IO_APICS, Pulse};
 use std::marker::Model;
 
 /// A latch of one thread. Contracts see, for each I/O APIC, the set of its latched pins as a number
 /// (pin n is in it where bit n is 1), how many devices there are, and how many have ended.
 #[derive(Drop)]
 pub struct PlainLatch {
-    words: [u32; 4],
+    words: [u32; MOST_IO_APICS],
     ios: u8,
     devices: u8,
     ended: u8,
@@ -36,7 +36,7 @@ impl PlainLatch {
         ensures { result ≡ empty_latch ios devices }
     {
         PlainLatch {
-            words: [0; 4],
+            words: [0; MOST_IO_APICS],
             ios,
             devices,
             ended: 0,

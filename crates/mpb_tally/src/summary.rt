@@ -30,18 +30,39 @@ pub fn drill_summary(alloc: Global, n: u32) -> Result<Vec<u8>, NoMemory>
     requires { n < 10000 }
     ensures summary { IfOk result (λ text. IsSummaryOf n text.items) }
 {
-    drills_have_boards();
-    let tables = drill_tables(alloc, n)?;
-    let script = drill_script(alloc, n)?;
-    let platform = platform_of(alloc, &tables)?;
-    let answers = routes(alloc, &platform, 0)?;
-    let config = board_of(alloc, n, &platform, answers.as_slice(), &script)?;
+    let (config, routes) = board_and_routes(alloc, n)?;
     let ran = ran(alloc, config)?;
     let tally = tally_of(&ran.board, &ran.account);
-    match text(alloc, n, routed_in(answers.as_slice()), tally) {
+    match text(alloc, n, routes, tally) {
         Ok(text) => Ok(text),
         Err(_) => Err(NoMemory),
     }
+}
+
+// the config of its board, and how many interrupts have a route
+fn board_and_routes(alloc: Global, n: u32) -> Result<(Config, u64), NoMemory>
+    requires { n < 10000 }
+    ensures board { IfOk result (λ x. x.0 ≡ drill_board n) }
+    ensures small { IfOk result (λ x. plan_size x.0 < 2 ^ 32) }
+    ensures routes { IfOk result (λ x. x.1 ≡ count_by is_routed (drill_routes n)) }
+{
+    let (platform, answers) = platform_and_routes(alloc, n)?;
+    let script = drill_script(alloc, n)?;
+    let config = board_of(alloc, n, &platform, answers.as_slice(), &script)?;
+    Ok((config, routed_in(answers.as_slice())))
+}
+
+// the platform of its tables, and its routes
+fn platform_and_routes(alloc: Global, n: u32) -> Result<(Platform, Vec<Answer>), NoMemory>
+    requires { n < 10000 }
+    ensures platform { IfOk result (λ x. x.0 ≡ platform_of (drill_tables n)) }
+    ensures routes { IfOk result (λ x. x.1.items ≡ drill_routes n) }
+{
+    drills_have_boards();
+    let tables = drill_tables(alloc, n)?;
+    let platform = platform_of(alloc, &tables)?;
+    let answers = routes(alloc, &platform, 0)?;
+    Ok((platform, answers))
 }
 
 // the config of its board; nothing speaks against it

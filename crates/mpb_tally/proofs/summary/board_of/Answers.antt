@@ -1,7 +1,6 @@
 use Rattle.std.proofs.Common.{sym, subst}
 use Rattle.mpb_script.specs.declared.script.Script.{Script}
 use Rattle.mpb_script.specs.Values.{HasScriptValues}
-use Rattle.mpb_drill.specs.Drill.{drill_script}
 use Rattle.mpb_setup.specs.Board.{board_config_of}
 use Rattle.mpb_tally.proofs.CountLemmas.{no_refusal}
 use Rattle.mpb_tally.proofs.summary.board_of.Goals as goal
