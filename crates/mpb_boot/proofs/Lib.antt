@@ -1,3 +1,1 @@
-pub mod LineLemmas
 pub mod ReportLemmas
-pub mod BoardLemmas

@@ -11,7 +11,7 @@ use Rattle.mpb_spec.specs.declared.pulse.Hit.{Hit}
 use Rattle.mpb_robin.specs.Account.{AccountsForPulses}
 use Rattle.mpb_robin.specs.RoundRobin.{IsRoundRobinOf}
 use Rattle.mpb_report.specs.Report.{report_of}
-use Rattle.mpb_boot.specs.Boot.{IsTraceOf, IsWholeRunOf, IsBootOf}
+use Rattle.mpb_boards.specs.Boot.{IsTraceOf, IsWholeRunOf, IsBootOf}
 
 module _ (c p : Plan) (journal : List Entry) (logs : List (List (Pulse × Hit))) (plan : p ≡ c) where
   said : (text : List ℕ) → text ≡ report_of p journal logs → text ≡ report_of c journal logs

@@ -8,7 +8,7 @@ ghost use Rattle.mpb_start_laws.specs.Starts.{IsStartedOnce};
 ghost use Rattle.mpb_spec.specs.Pulses.{logs_of};
 ghost use Rattle.mpb_robin.specs.Account.{AccountsForPulses};
 ghost use Rattle.mpb_robin.specs.RoundRobin.{IsRoundRobinOf};
-ghost use Rattle.mpb_boot.specs.Boot.{IsTraceOf, IsWholeRunOf, IsBootOf};
+ghost use Rattle.mpb_boards.specs.Boot.{IsTraceOf, IsWholeRunOf, IsBootOf};
 
 use mpb_board::Board;
 use mpb_crew::{Gate, threads};

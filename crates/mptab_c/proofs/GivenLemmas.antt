@@ -1,9 +1,9 @@
 -- A whole answer with lent files is what a call gives.
 use Rattle.std.proofs.Common.{◌≡◌, ℕ, List, [], ◌++◌, length, Some, sym, ap, subst, ◌∙◌, inl, inr, ◌⊎◌, arith}
 use Rattle.mpt_base.specs.Outside.{Files, Rose}
-use Rattle.mptab_calls.specs.Forms.{IsStill}
-use Rattle.mptab_calls.specs.Texts.{no_memory_line}
-use Rattle.mptab_calls.specs.Walk.{outside, IsAnswer, IsComplete, AnswersWhole, TellsFailures}
+use Rattle.mptab_walk.specs.Forms.{IsStill}
+use Rattle.mptab_walk.specs.Texts.{no_memory_line}
+use Rattle.mptab_walk.specs.Walk.{outside, IsAnswer, IsComplete, AnswersWhole, TellsFailures}
 use Rattle.mptab_c.specs.Lent.{LentState, lent_files}
 use Rattle.mptab_c.specs.Given.{IsGiven, IsHanded, Gives}
 

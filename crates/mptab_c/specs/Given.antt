@@ -4,9 +4,9 @@
 --     Gives files words before after needed result both, and how many bytes the text has
 use Rattle.std.specs.Prelude.{◌≡◌, ◌≤◌, ◌<◌, ℕ, List, ◌++◌, drop, length, ◌⊎◌, Some}
 use Rattle.mpt_base.specs.Outside.{Files}
-use Rattle.mptab_calls.specs.Forms.{IsStill}
-use Rattle.mptab_calls.specs.Texts.{no_memory_line}
-use Rattle.mptab_calls.specs.Walk.{IsAnswer}
+use Rattle.mptab_walk.specs.Forms.{IsStill}
+use Rattle.mptab_walk.specs.Texts.{no_memory_line}
+use Rattle.mptab_walk.specs.Walk.{IsAnswer}
 
 -- the program's answer to these words with these files, or its line for want of memory
 abbrev pub IsGiven : Files → List (List ℕ) → ℕ → List ℕ → Type 0

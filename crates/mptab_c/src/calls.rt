@@ -1,8 +1,8 @@
 //! A call: the walk over lent files, and the text handed to the caller.
 
 ghost use Rattle.std.specs.Prelude.{◌≡◌, ◌∷◌, [], length, map};
-ghost use Rattle.mptab_calls.specs.Texts.{no_memory_line};
-ghost use Rattle.mptab_calls.specs.Walk.{texts_of};
+ghost use Rattle.mptab_walk.specs.Texts.{no_memory_line};
+ghost use Rattle.mptab_walk.specs.Walk.{texts_of};
 ghost use Rattle.mptab_c.specs.Lent.{lent_files};
 ghost use Rattle.mptab_c.specs.Files.{files_lent};
 ghost use Rattle.mptab_c.specs.Given.{Gives, IsHanded};

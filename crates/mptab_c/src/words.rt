@@ -2,7 +2,7 @@
 
 ghost use Rattle.std.specs.Prelude.{◌≡◌, IfOk, IsUtf8, map, decimal, string_bytes};
 ghost use Rattle.mpt_listing.specs.Listing.{hex};
-ghost use Rattle.mptab_calls.specs.Walk.{texts_of};
+ghost use Rattle.mptab_walk.specs.Walk.{texts_of};
 
 use mpt_base::NoMemory;
 use mpt_listing::{push_decimal, push_hex};

@@ -1,14 +1,14 @@
 -- What follows from an answer that was given: each status's cause, that it comes whole, and that no failure is hidden.
 use Rattle.std.proofs.Common.{◌≡◌, ℕ, ◌⊎◌, List, Option, sym, subst, ◌∙◌, inl, inr}
 use Rattle.mpt_base.specs.Outside.{Files}
-use Rattle.mptab_calls.specs.Forms.{Form, Boot, IsForm, IsStill, IsAny, form_of_still, form_of_tables}
-use Rattle.mptab_calls.specs.declared.words.StillCommand.{StillCommand}
-use Rattle.mptab_calls.specs.declared.words.StillCommand.TheVariants as still
-use Rattle.mptab_calls.specs.declared.words.TablesCommand.{TablesCommand}
-use Rattle.mptab_calls.specs.declared.words.TablesCommand.TheVariants as tables
-use Rattle.mptab_calls.specs.Commands.{IsRefused, IsText}
-use Rattle.mptab_calls.specs.Walk.{Outside, IsDueOf, Answers, IsComplete, TellsFailures, TellsMisses, IsNoForm}
-use Rattle.mptab_calls.proofs.FormReading.{same_form}
+use Rattle.mptab_walk.specs.Forms.{Form, Boot, IsForm, IsStill, IsAny, form_of_still, form_of_tables}
+use Rattle.mptab_walk.specs.declared.words.StillCommand.{StillCommand}
+use Rattle.mptab_walk.specs.declared.words.StillCommand.TheVariants as still
+use Rattle.mptab_walk.specs.declared.words.TablesCommand.{TablesCommand}
+use Rattle.mptab_walk.specs.declared.words.TablesCommand.TheVariants as tables
+use Rattle.mptab_walk.specs.Commands.{IsRefused, IsText}
+use Rattle.mptab_walk.specs.Walk.{Outside, IsDueOf, Answers, IsComplete, TellsFailures, TellsMisses, IsNoForm}
+use Rattle.mptab_walk.proofs.FormReading.{same_form}
 use Rattle.mptab_calls.specs.Causes.{Cause, Done, Usage, NoFile, CannotRead, CannotWrite, Refused, NoMemory, TooLarge}
 
 -- what is due to a form, in its row

@@ -1,9 +1,1 @@
-pub mod DeliveryLemmas
-pub mod AnswerLemmas
 pub mod CauseLemmas
-pub mod FileLemmas
-pub mod BoardLemmas
-pub mod FormReading
-pub mod SecondLemmas
-pub mod LimitedLemmas
-pub mod RouteLemmas

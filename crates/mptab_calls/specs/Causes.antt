@@ -4,9 +4,9 @@
 use Rattle.std.specs.Prelude.{◌≡◌, ℕ, List, Option, ⊤}
 use Rattle.std.specs.List.{AllByRecursion}
 use Rattle.mpt_base.specs.Outside.{Files, Rose}
-use Rattle.mptab_calls.specs.Forms.{Form, Named, files_of}
-use Rattle.mptab_calls.specs.Commands.{IsUnderstood, IsRefused, IsText}
-use Rattle.mptab_calls.specs.Walk.{Outside, IsListed, IsNoForm, IsAbsent, IsTooLarge, Reaches, IsFirstRead}
+use Rattle.mptab_walk.specs.Forms.{Form, Named, files_of}
+use Rattle.mptab_walk.specs.Commands.{IsUnderstood, IsRefused, IsText}
+use Rattle.mptab_walk.specs.Walk.{Outside, IsListed, IsNoForm, IsAbsent, IsTooLarge, Reaches, IsFirstRead}
 
 -- the words are a listed form whose walk comes to a file of which P holds
 abbrev pub ComesTo : (Form → Type 0) → Option Files → List (List ℕ) → (Named → Type 0) → Type 0

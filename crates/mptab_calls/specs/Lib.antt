@@ -1,10 +1,2 @@
-pub mod Texts
-pub mod Forms
-pub mod Commands
-pub mod Walk
 pub mod Causes
 pub mod TopCall
-pub mod Ending
-pub mod Limited
-pub mod File
-pub mod Boards

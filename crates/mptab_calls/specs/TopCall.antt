@@ -9,8 +9,8 @@ use Rattle.std.specs.Prelude.{ℕ, List, String}
 use Rattle.std.specs.Global.{Global}
 use Rattle.mpt_base.specs.declared.outside.Shelf.{Ghosts as ShelfOf}
 use Rattle.mpt_base.specs.declared.outside.Sink.{Ghosts as SinkOf}
-use Rattle.mptab_calls.specs.Forms.{Form}
-use Rattle.mptab_calls.specs.Walk.{outside_of, texts_of, Answers, IsComplete, TellsFailures, TellsMisses, AsksAtMost}
+use Rattle.mptab_walk.specs.Forms.{Form}
+use Rattle.mptab_walk.specs.Walk.{outside_of, texts_of, Answers, IsComplete, TellsFailures, TellsMisses, AsksAtMost}
 use Rattle.mptab_calls.specs.Causes.{Cause}
 
 -- status and text are an answer of words and files; or a read failed, or memory ran out; or, with status 5, a write failed

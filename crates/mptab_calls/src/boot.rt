@@ -1,16 +1,12 @@
 //! What `boot` gives.
 
 ghost use Rattle.std.specs.Prelude.{◌≡◌, ◌≤◌, ◌+◌, ℕ, List};
-ghost use Rattle.mptab_calls.specs.Forms.{Boot, files_of};
-ghost use Rattle.mptab_calls.specs.Walk.{IsDueOf, IsDelivered, AsksOf, outside_of};
+ghost use Rattle.mptab_walk.specs.Forms.{Boot, files_of};
+ghost use Rattle.mptab_walk.specs.Walk.{IsDueOf, IsDelivered, AsksOf, outside_of};
 
-use crate::board::{refuse_board, take_board};
-use crate::delivery::deliver_text;
-use crate::ending::{Ending, refuse};
-use crate::status::DONE;
-use crate::words::BoardFiles;
 use mpb_boot::{Gate, boot};
 use mpt_base::{NoMemory, Shelf, Sink};
+use mptab_walk::{BoardFiles, DONE, Ending, deliver_text, refuse, refuse_board, take_board};
 use std::alloc::Global;
 use std::sync::Wait;
 use std::thread::Threads;

@@ -1,17 +1,15 @@
 //! The top calls.
 
 ghost use Rattle.std.specs.Prelude.{◌≡◌, MatchOption};
-ghost use Rattle.mptab_calls.specs.Forms.{IsStill, IsAny, IsForm, form_of_still};
-ghost use Rattle.mptab_calls.specs.Walk.{texts_of, IsNoForm};
+ghost use Rattle.mptab_walk.specs.Forms.{IsStill, IsAny, IsForm, form_of_still};
+ghost use Rattle.mptab_walk.specs.Walk.{texts_of, IsNoForm};
 ghost use Rattle.mptab_calls.specs.TopCall.{GivesAnswer, HasCause, IsWhole, HidesNoFailure, HidesNoMiss, AsksNoMore};
 
 use crate::boot::give_of_boot;
-use crate::delivery::deliver_line;
 use crate::giving::give;
-use crate::status::USAGE;
-use crate::words::{Command, StillCommand, command_of};
 use mpb_boot::{Gate, NoGate};
 use mpt_base::{Shelf, Sink};
+use mptab_walk::{Command, StillCommand, USAGE, command_of, deliver_line};
 use std::alloc::Global;
 use std::sync::Wait;
 use std::thread::Threads;

@@ -1,16 +1,12 @@
 //! What `trace` gives.
 
 ghost use Rattle.std.specs.Prelude.{◌≡◌, ◌≤◌, ◌+◌, ℕ, List};
-ghost use Rattle.mptab_calls.specs.Forms.{Trace, files_of};
-ghost use Rattle.mptab_calls.specs.Walk.{IsDueOf, IsDelivered, AsksOf, outside_of};
+ghost use Rattle.mptab_walk.specs.Forms.{Trace, files_of};
+ghost use Rattle.mptab_walk.specs.Walk.{IsDueOf, IsDelivered, AsksOf, outside_of};
 
-use crate::board::{refuse_board, take_board};
-use crate::delivery::deliver_text;
-use crate::ending::{Ending, refuse};
-use crate::status::DONE;
-use crate::words::BoardFiles;
 use mpb_boot::trace;
 use mpt_base::{NoMemory, Shelf, Sink};
+use mptab_walk::{BoardFiles, DONE, Ending, deliver_text, refuse, refuse_board, take_board};
 use std::alloc::Global;
 
 /// Delivers the report of the round robin of the board that the files describe, and answers the status.

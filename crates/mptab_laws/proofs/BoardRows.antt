@@ -39,7 +39,7 @@ use Rattle.mpf_pic_lines.specs.declared.op.PicOp.{PicOp}
 use Rattle.mpf_pic.specs.Wiring.{wiring_of}
 use Rattle.mpf_pic.specs.Play.{pic_text}
 use Rattle.mpf_played.specs.Played.{IsPlayedBehind}
-use Rattle.mpb_boot.specs.Boot.{board_of, fault_of, IsTraceOf, IsBootOf}
+use Rattle.mpb_boards.specs.Boot.{board_of, fault_of, IsTraceOf, IsBootOf}
 
 -- ids that are bytes
 apics : (ps : List Processor) → AllByRecursion (λ e. e.apic < 256) ps → AreBytes (map (λ e. e.apic) (filter is_enabled ps))

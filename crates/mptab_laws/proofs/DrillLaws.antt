@@ -2,9 +2,9 @@
 use Rattle.std.proofs.Common.{◌≡◌, ℕ, ◌⊎◌, List, Option, Some, sym, subst, ◌∙◌, inl, inr}
 use Rattle.mpt_base.specs.Outside.{Files}
 use Rattle.mpb_tally.specs.Summary.{IsSummaryOf}
-use Rattle.mptab_calls.specs.Forms.{Form, Drill, IsForm}
-use Rattle.mptab_calls.specs.Walk.{Outside, IsAnswer, IsAnswerOf, IsDueOf, IsFailure, Answers}
-use Rattle.mptab_calls.proofs.FormReading.{same_form}
+use Rattle.mptab_walk.specs.Forms.{Form, Drill, IsForm}
+use Rattle.mptab_walk.specs.Walk.{Outside, IsAnswer, IsAnswerOf, IsDueOf, IsFailure, Answers}
+use Rattle.mptab_walk.proofs.FormReading.{same_form}
 
 of_drill : (told : Option Files) (n s : ℕ) (t : List ℕ) → IsAnswerOf told (Drill n) s t → (s ≡ 0) × IsSummaryOf n t
 of_drill told n s t (inl a) = absurd a.1

@@ -21,7 +21,7 @@ use Rattle.mpf_answers.specs.PinLines.{pin_differences_text}
 use Rattle.mpf_laws.proofs.MadtBytes.{madt_of-bytes}
 use Rattle.mpf_laws.proofs.PirBytes.{pir_of-bytes}
 use Rattle.mpf_laws.proofs.DifferencesThere.{differences-there}
-use Rattle.mptab_calls.specs.Commands.{status_of, IsMadtMade, IsPirMade, IsPirCompared}
+use Rattle.mptab_walk.specs.Commands.{status_of, IsMadtMade, IsPirMade, IsPirCompared}
 
 pub madt_made_one : (elcr : ℕ) (tables : Tables) (s u : ℕ) (t v : List ℕ) → IsMadtMade elcr tables s t → IsMadtMade elcr tables u v → (s ≡ u) × (t ≡ v)
 madt_made_one elcr tables s u t v (inl a) (inl b) =

@@ -26,12 +26,12 @@ use Rattle.mpb_replay_laws.specs.declared.verdict.Verdict.{Verdict}
 use Rattle.mpb_replay_laws.specs.declared.verdict.Verdict.TheVariants.{Legal}
 use Rattle.mpb_replay_laws.specs.Verdict.{IsVerdict}
 use Rattle.mpb_replay_laws.proofs.OneVerdict.{same_verdict}
-use Rattle.mpb_boot.specs.Boot.{board_of, fault_of, IsTraceOf, IsBootOf}
-use Rattle.mpb_boot.specs.Lines.{verdict_line}
-use Rattle.mptab_calls.specs.Forms.{Form, Trace, Boot, Replay, Named, Image, Script, Report, IsForm, IsAny, files_of, name_of, limit_of, IsRead}
-use Rattle.mptab_calls.specs.Commands.{ImageGives, ScriptGives, ReportGives, WithBoard, IsUnderstood, IsTraced, IsBooted, IsJudged, IsText, verdict_status}
-use Rattle.mptab_calls.specs.Walk.{Outside, IsAnswer, IsAnswerOf, EndsAt, Reaches, IsDue, IsDueOf, IsFailure, Answers}
-use Rattle.mptab_calls.proofs.FormReading.{same_form}
+use Rattle.mpb_boards.specs.Boot.{board_of, fault_of, IsTraceOf, IsBootOf}
+use Rattle.mpb_boards.specs.Lines.{verdict_line}
+use Rattle.mptab_walk.specs.Forms.{Form, Trace, Boot, Replay, Named, Image, Script, Report, IsForm, IsAny, files_of, name_of, limit_of, IsRead}
+use Rattle.mptab_walk.specs.Commands.{ImageGives, ScriptGives, ReportGives, WithBoard, IsUnderstood, IsTraced, IsBooted, IsJudged, IsText, verdict_status}
+use Rattle.mptab_walk.specs.Walk.{Outside, IsAnswer, IsAnswerOf, EndsAt, Reaches, IsDue, IsDueOf, IsFailure, Answers}
+use Rattle.mptab_walk.proofs.FormReading.{same_form}
 use Rattle.mptab_laws.specs.Laws.{AreBytesTold, IsReported, HoldsReport}
 use Rattle.mptab_laws.proofs.BoardRows.{board_config, small, room_small, few_words, op_values}
 use Rattle.mptab_laws.proofs.Rows.{IsRead-of, refused_fails, board_one, report_one, image_values}

@@ -44,8 +44,8 @@ use Rattle.mpb_script.proofs.AnswerLemmas.{HasFault-unique, IsScriptOf-no_fault,
 use Rattle.mpb_script.proofs.ValueLemmas.{IsScriptOf-values}
 use Rattle.mpb_script_laws.specs.Laws.{IsScript, IsRefused as IsScriptRefused}
 use Rattle.mpb_script_laws.proofs.Judgment.{judged}
-use Rattle.mpb_boot.specs.Boot.{board_of, fault_of, IsTraceOf}
-use Rattle.mpb_boot.specs.Lines.{script_fault_line, board_fault_line, IsScriptFault, verdict_line}
+use Rattle.mpb_boards.specs.Boot.{board_of, fault_of, IsTraceOf}
+use Rattle.mpb_boards.specs.Lines.{script_fault_line, board_fault_line, IsScriptFault, verdict_line}
 use Rattle.mpb_report_line.specs.declared.report.Report.{Report as AReport}
 use Rattle.mpb_report_parse.specs.Reports.{IsReport, IsReportOf}
 use Rattle.mpb_report_laws.proofs.Complete.{every_text as every_report_text}
@@ -77,8 +77,8 @@ use Rattle.mpf_answers.specs.FaultLines.{madt_fault_line, pir_fault_line}
 use Rattle.mpf_answers.specs.LineDifferences.{line_differences_of, line_differences_text}
 use Rattle.mptab_laws.proofs.BoardRows.{board_config, trace_some, boot_some, trace_one, played_one, played_some, drill_some, drill_one}
 use Rattle.mptab_laws.proofs.FirmwareRows.{madt_made_one, madt_made_some, pir_made_one, pir_made_some, pir_compared_one, pir_compared_some}
-use Rattle.mptab_calls.specs.Forms.{Form, Show, Audit, Canon, Raise, Madt, Pirmake, Build, Route, Trace, Boot, Drill, Replay, Madtcmp, Pircmp, Pic, Named, Image, Listing, Script, Report, AcpiTable, RoutingTable, Calls, IsForm, IsStill, files_of, name_of, limit_of, IsRead}
-use Rattle.mptab_calls.specs.Commands.{bad_report_line, bad_calls_line, MadtGives, PirGives, CallsGive, IsMadtMade, IsPirMade, IsMadtCompared, IsPirCompared, IsPlayed, ReportGives, IsJudged, verdict_status, fault_line, no_pointer_line, bad_line_line, unfit_line, status_of, ImageGives, ListingGives, ScriptGives, WithTables, WithBoard, IsUnderstood, IsRefused, IsShown, IsAudited, IsMadeCanonical, IsRaised, IsBuilt, IsRouted, IsTraced, IsBooted, IsDrilled, IsText}
+use Rattle.mptab_walk.specs.Forms.{Form, Show, Audit, Canon, Raise, Madt, Pirmake, Build, Route, Trace, Boot, Drill, Replay, Madtcmp, Pircmp, Pic, Named, Image, Listing, Script, Report, AcpiTable, RoutingTable, Calls, IsForm, IsStill, files_of, name_of, limit_of, IsRead}
+use Rattle.mptab_walk.specs.Commands.{bad_report_line, bad_calls_line, MadtGives, PirGives, CallsGive, IsMadtMade, IsPirMade, IsMadtCompared, IsPirCompared, IsPlayed, ReportGives, IsJudged, verdict_status, fault_line, no_pointer_line, bad_line_line, unfit_line, status_of, ImageGives, ListingGives, ScriptGives, WithTables, WithBoard, IsUnderstood, IsRefused, IsShown, IsAudited, IsMadeCanonical, IsRaised, IsBuilt, IsRouted, IsTraced, IsBooted, IsDrilled, IsText}
 use Rattle.mptab_laws.specs.Laws.{AreBytesTold, HasOneText, AreAlike}
 
 -- ---- a file that is read

@@ -5,11 +5,11 @@ use Rattle.std.specs.List.{AllByRecursion}
 use Rattle.std.proofs.lemmas.Bool.{cases_lt}
 use Rattle.mpt_base.specs.Outside.{Files}
 use Rattle.mpt_laws.proofs.EntryJudgment.{Decided}
-use Rattle.mptab_calls.specs.Texts.{usage_line, no_file_line, too_large_line}
-use Rattle.mptab_calls.specs.Forms.{Form, Named, IsForm, files_of, name_of, limit_of}
-use Rattle.mptab_calls.specs.Commands.{IsUnderstood, IsRefused, IsText}
-use Rattle.mptab_calls.specs.Walk.{IsAnswer, IsAnswerOf, EndsAt, Reaches}
-use Rattle.mptab_calls.proofs.FormReading.{same_form, form_judged}
+use Rattle.mptab_walk.specs.Texts.{usage_line, no_file_line, too_large_line}
+use Rattle.mptab_walk.specs.Forms.{Form, Named, IsForm, files_of, name_of, limit_of}
+use Rattle.mptab_walk.specs.Commands.{IsUnderstood, IsRefused, IsText}
+use Rattle.mptab_walk.specs.Walk.{IsAnswer, IsAnswerOf, EndsAt, Reaches}
+use Rattle.mptab_walk.proofs.FormReading.{same_form, form_judged}
 use Rattle.mptab_laws.specs.Laws.{AreBytesTold, HasOneText, AreAlike}
 use Rattle.mptab_laws.proofs.Rows.{refused_read, understood_read, refused_not_understood, refused_one, file_judged, text_one, texts_alike, text_given, IsRead-bytes, IsReady, AreReady, form_ready}
 

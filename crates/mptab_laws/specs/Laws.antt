@@ -8,8 +8,8 @@
 use Rattle.std.specs.Prelude.{◌≡◌, ◌≢◌, ◌⊎◌, ℕ, List, [], ◌∷◌, codes, Some, IfSome, ⊤}
 use Rattle.mpt_base.specs.Outside.{Files}
 use Rattle.mpt_base.specs.Bytes.{IsByteList}
-use Rattle.mptab_calls.specs.Forms.{Form, Show, Audit, Canon, Raise, Madt, Pirmake, Build, Route, Trace, Boot, Drill, Replay, Madtcmp, Pircmp, Pic, IsForm}
-use Rattle.mptab_calls.specs.Walk.{IsAnswer}
+use Rattle.mptab_walk.specs.Forms.{Form, Show, Audit, Canon, Raise, Madt, Pirmake, Build, Route, Trace, Boot, Drill, Replay, Madtcmp, Pircmp, Pic, IsForm}
+use Rattle.mptab_walk.specs.Walk.{IsAnswer}
 
 -- each file is a list of bytes
 abbrev pub AreBytesTold : Files → Type 0

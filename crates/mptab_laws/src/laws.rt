@@ -9,10 +9,10 @@ ghost use Rattle.mpb_tally.specs.Summary.{IsSummaryOf};
 ghost use Rattle.mpb_report_line.specs.declared.report.Report.{Report as AReport};
 ghost use Rattle.mpb_report_parse.specs.Reports.{IsReportOf};
 ghost use Rattle.mpb_replay_laws.specs.declared.verdict.Verdict.TheVariants.{Legal};
-ghost use Rattle.mpb_boot.specs.Lines.{verdict_line};
-ghost use Rattle.mptab_calls.specs.Commands.{fault_line};
-ghost use Rattle.mptab_calls.specs.Forms.{Form, Drill, IsForm, IsAny, IsStill, IsRead, Image, files_of};
-ghost use Rattle.mptab_calls.specs.Walk.{Outside, IsAnswer, Answers, Reaches};
+ghost use Rattle.mpb_boards.specs.Lines.{verdict_line};
+ghost use Rattle.mptab_walk.specs.Commands.{fault_line};
+ghost use Rattle.mptab_walk.specs.Forms.{Form, Drill, IsForm, IsAny, IsStill, IsRead, Image, files_of};
+ghost use Rattle.mptab_walk.specs.Walk.{Outside, IsAnswer, Answers, Reaches};
 ghost use Rattle.mptab_laws.specs.Laws.{AreBytesTold, HaveOneText, AreAlike, IsReported, HoldsReport};
 
 /// Words and told files of bytes have an answer.

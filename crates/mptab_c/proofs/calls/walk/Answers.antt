@@ -1,5 +1,5 @@
 use Rattle.std.proofs.Common.{ap}
-use Rattle.mptab_calls.specs.Walk.{texts_of}
+use Rattle.mptab_walk.specs.Walk.{texts_of}
 use Rattle.mptab_c.proofs.GivenLemmas.{Gives-whole}
 use Rattle.mptab_c.proofs.calls.walk.Goals as goal
 

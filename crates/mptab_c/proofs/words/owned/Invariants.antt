@@ -1,5 +1,5 @@
 use Rattle.std.proofs.Common.{◌≡◌, map, take}
-use Rattle.mptab_calls.specs.Walk.{texts_of}
+use Rattle.mptab_walk.specs.Walk.{texts_of}
 use Rattle.mptab_c.proofs.words.owned.Given as goal
 
 abbrev pub invariant-loop-word : goal.invariant-loop-word

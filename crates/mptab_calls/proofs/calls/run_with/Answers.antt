@@ -1,5 +1,5 @@
-use Rattle.mptab_calls.specs.Forms.{IsAny}
-use Rattle.mptab_calls.specs.Walk.{texts_of, outside_of}
+use Rattle.mptab_walk.specs.Forms.{IsAny}
+use Rattle.mptab_walk.specs.Walk.{texts_of, outside_of}
 use Rattle.mptab_calls.proofs.CauseLemmas.{Answers-cause, Answers-whole, Answers-failures, Answers-misses}
 use Rattle.mptab_calls.proofs.calls.run_with.Goals as goal
 

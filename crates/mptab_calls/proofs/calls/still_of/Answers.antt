@@ -1,4 +1,4 @@
-use Rattle.mptab_calls.specs.Walk.{texts_of}
+use Rattle.mptab_walk.specs.Walk.{texts_of}
 use Rattle.mptab_calls.proofs.CauseLemmas.{boot-alone, no_form-still}
 use Rattle.mptab_calls.proofs.calls.still_of.Goals as goal
 

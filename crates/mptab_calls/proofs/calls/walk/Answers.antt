@@ -1,7 +1,7 @@
 use Rattle.std.proofs.Common.{refl, inl}
-use Rattle.mptab_calls.specs.Texts.{usage_line}
-use Rattle.mptab_calls.specs.Walk.{texts_of}
-use Rattle.mptab_calls.proofs.AnswerLemmas.{IsInRange-form}
+use Rattle.mptab_walk.specs.Texts.{usage_line}
+use Rattle.mptab_walk.specs.Walk.{texts_of}
+use Rattle.mptab_walk.proofs.AnswerLemmas.{IsInRange-form}
 use Rattle.mptab_calls.proofs.calls.walk.Goals as goal
 
 pub give-requires : goal.give-requires

@@ -1,8 +1,8 @@
 use Rattle.std.proofs.Common.{refl, inl, inr}
-use Rattle.mptab_calls.specs.Forms.{form_of_still}
-use Rattle.mptab_calls.specs.Texts.{usage_line}
-use Rattle.mptab_calls.specs.Walk.{texts_of}
-use Rattle.mptab_calls.proofs.AnswerLemmas.{IsInRange-form}
+use Rattle.mptab_walk.specs.Forms.{form_of_still}
+use Rattle.mptab_walk.specs.Texts.{usage_line}
+use Rattle.mptab_walk.specs.Walk.{texts_of}
+use Rattle.mptab_walk.proofs.AnswerLemmas.{IsInRange-form}
 use Rattle.mptab_calls.proofs.CauseLemmas.{still_form}
 use Rattle.mptab_calls.proofs.calls.walk_still.Goals as goal
 

@@ -1,8 +1,8 @@
 use Rattle.std.proofs.Common.{refl, sym, subst}
-use Rattle.mptab_calls.specs.declared.words.StillCommand.{StillCommand}
-use Rattle.mptab_calls.specs.Forms.{form_of_still}
-use Rattle.mptab_calls.specs.Walk.{IsDueOf, outside_of}
-use Rattle.mptab_calls.proofs.AnswerLemmas.{IsDrillDue-due}
+use Rattle.mptab_walk.specs.declared.words.StillCommand.{StillCommand}
+use Rattle.mptab_walk.specs.Forms.{form_of_still}
+use Rattle.mptab_walk.specs.Walk.{IsDueOf, outside_of}
+use Rattle.mptab_walk.proofs.AnswerLemmas.{IsDrillDue-due}
 use Rattle.mptab_calls.proofs.giving.give.Goals as goal
 
 pub returns-in-OfTables-clause-due : goal.returns-in-OfTables-clause-due

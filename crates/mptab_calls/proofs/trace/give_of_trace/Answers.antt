@@ -1,10 +1,10 @@
 use Rattle.std.proofs.Common.{[], refl}
-use Rattle.mptab_calls.specs.declared.ending.Ending.TheVariants.{NoMemory}
-use Rattle.mptab_calls.specs.Forms.{Trace}
-use Rattle.mptab_calls.specs.Walk.{outside_of}
-use Rattle.mptab_calls.specs.Ending.{ending_status, ending_text, shelves_of}
-use Rattle.mptab_calls.specs.Boards.{board_ending_status, board_ending_text}
-use Rattle.mptab_calls.proofs.BoardLemmas.{board-ends, board-unmade, asks-board, asks-end, trace-due}
+use Rattle.mptab_walk.specs.declared.ending.Ending.TheVariants.{NoMemory}
+use Rattle.mptab_walk.specs.Forms.{Trace}
+use Rattle.mptab_walk.specs.Walk.{outside_of}
+use Rattle.mptab_walk.specs.Ending.{ending_status, ending_text, shelves_of}
+use Rattle.mptab_walk.specs.Boards.{board_ending_status, board_ending_text}
+use Rattle.mptab_walk.proofs.BoardLemmas.{board-ends, board-unmade, asks-board, asks-end, trace-due}
 use Rattle.mptab_calls.proofs.trace.give_of_trace.Goals as goal
 
 pub returns-in-Ok-trace-clause-due : goal.returns-in-Ok-trace-clause-due

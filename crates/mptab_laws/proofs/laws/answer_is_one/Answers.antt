@@ -1,4 +1,4 @@
-use Rattle.mptab_calls.specs.Forms.{IsAny, IsStill}
+use Rattle.mptab_walk.specs.Forms.{IsAny, IsStill}
 use Rattle.mptab_laws.proofs.WalkLaws.{answer_one}
 use Rattle.mptab_laws.proofs.laws.answer_is_one.Goals as goal
 

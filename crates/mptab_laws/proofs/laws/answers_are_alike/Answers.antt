@@ -1,4 +1,4 @@
-use Rattle.mptab_calls.specs.Forms.{IsAny, IsStill}
+use Rattle.mptab_walk.specs.Forms.{IsAny, IsStill}
 use Rattle.mptab_laws.proofs.WalkLaws.{answers_alike}
 use Rattle.mptab_laws.proofs.laws.answers_are_alike.Goals as goal
 

@@ -1,4 +1,4 @@
-use Rattle.mptab_calls.specs.Forms.{IsAny, IsStill}
+use Rattle.mptab_walk.specs.Forms.{IsAny, IsStill}
 use Rattle.mptab_laws.proofs.DrillLaws.{drill_summed, drill_status}
 use Rattle.mptab_laws.proofs.laws.drills_are_summed_up.Goals as goal
 

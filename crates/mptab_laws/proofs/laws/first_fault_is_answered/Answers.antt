@@ -3,9 +3,9 @@ use Rattle.mpt_base.specs.Outside.{Files}
 use Rattle.mpt_base.specs.declared.fault.Reason.{Reason}
 use Rattle.mpt_spec.specs.Faults.{IsFirstFault}
 use Rattle.mpt_spec.proofs.FaultLemmas.{IsFirstFault-inside}
-use Rattle.mptab_calls.specs.Commands.{fault_line}
-use Rattle.mptab_calls.specs.Forms.{Form, Image, IsForm, IsStill, IsRead, files_of}
-use Rattle.mptab_calls.specs.Walk.{IsAnswer, Reaches}
+use Rattle.mptab_walk.specs.Commands.{fault_line}
+use Rattle.mptab_walk.specs.Forms.{Form, Image, IsForm, IsStill, IsRead, files_of}
+use Rattle.mptab_walk.specs.Walk.{IsAnswer, Reaches}
 use Rattle.mptab_laws.proofs.Rows.{IsRead-bytes}
 use Rattle.mptab_laws.proofs.laws.first_fault_is_answered.Goals as goal
 

@@ -1,4 +1,4 @@
-use Rattle.mptab_calls.specs.Forms.{IsAny, IsStill}
+use Rattle.mptab_walk.specs.Forms.{IsAny, IsStill}
 use Rattle.mptab_laws.proofs.ReplayLaws.{report_read, replayed, replay_status}
 use Rattle.mptab_laws.proofs.laws.reports_are_replayed.Goals as goal
 

@@ -1,5 +1,5 @@
 use Rattle.std.proofs.Common.{inl}
-use Rattle.mptab_calls.specs.Forms.{IsAny, IsStill}
+use Rattle.mptab_walk.specs.Forms.{IsAny, IsStill}
 use Rattle.mptab_laws.proofs.Rows.{still_judged}
 use Rattle.mptab_laws.proofs.WalkLaws.{answer_some}
 use Rattle.mptab_laws.proofs.laws.words_have_an_answer.Goals as goal

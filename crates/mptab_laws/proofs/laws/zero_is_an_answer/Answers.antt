@@ -1,4 +1,4 @@
-use Rattle.mptab_calls.specs.Forms.{IsAny, IsStill}
+use Rattle.mptab_walk.specs.Forms.{IsAny, IsStill}
 use Rattle.mptab_laws.proofs.ReplayLaws.{zero_answered}
 use Rattle.mptab_laws.proofs.laws.zero_is_an_answer.Goals as goal
 

@@ -1,8 +1,0 @@
-use Rattle.std.proofs.Common.{◌≡◌, ◌∙◌, List, subst}
-use Rattle.mpf_answers.specs.declared.differing_lines.LineDifference.{LineDifference}
-use Rattle.mpf_answers.specs.LineDifferences.{line_differences_text}
-use Rattle.mptab_calls.specs.Commands.{status_of}
-use Rattle.mptab_calls.proofs.madtcmp.compared.Goals as goal
-
-pub returns : goal.returns
-returns c = subst (λ (found : List LineDifference). (c.status_of.result ≡ status_of found) × (c.in_ok-text.text.items ≡ line_differences_text found)) (c.as_slice-differences.ensures.value ∙ c.in_ok-found.ensures) (c.status_of.ensures, c.in_ok-text.ensures)

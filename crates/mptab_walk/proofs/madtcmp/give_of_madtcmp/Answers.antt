@@ -1,0 +1,41 @@
+use Rattle.std.proofs.Common.{◌≤◌, ◌+◌, refl, sym, subst, Option}
+use Rattle.mpt_base.specs.Outside.{Files}
+use Rattle.mptab_walk.specs.Forms.{Madtcmp, AcpiTable}
+use Rattle.mptab_walk.specs.Commands.{ImageGives}
+use Rattle.mptab_walk.specs.Walk.{IsDueOf, most_of, outside_of}
+use Rattle.mptab_walk.specs.Ending.{ending_status, ending_text}
+use Rattle.mptab_walk.proofs.BoardLemmas.{IsDueOf-earlier}
+use Rattle.mptab_walk.proofs.SecondLemmas.{image-ends, asks-image, asks-second}
+use Rattle.mptab_walk.proofs.madtcmp.give_of_madtcmp.Goals as goal
+
+pub give_of_madt-requires-clause-gives : goal.give_of_madt-requires-clause-gives
+give_of_madt-requires-clause-gives g c = subst (λ (t : Option Files). ImageGives t c.args.files.image.now c.in-Ok.tables) (sym c.in-Ok.ensures.files_stay) c.in-Ok.ensures.tables
+
+pub returns-in-Ok-clause-due : goal.returns-in-Ok-clause-due
+returns-in-Ok-clause-due g c =
+    let facts = c.in-Ok.ensures in
+    let due = c.give_of_madt.ensures.due in (
+      due.0,
+      due.1,
+      IsDueOf-earlier (g.S.Shelf.files c.args.shelf.now) (outside_of g.S.Shelf g.O.Sink c.args.shelf.now c.args.out.now) (outside_of g.S.Shelf g.O.Sink c.take_image.new.shelf c.args.out.now) (outside_of g.S.Shelf g.O.Sink c.give_of_madt.new.shelf c.give_of_madt.new.out) (Madtcmp c.args.files.image.now c.args.files.elcr c.args.files.madt.now) due.0 due.1 facts.quiet
+          (subst (λ (t : Option Files). IsDueOf t (outside_of g.S.Shelf g.O.Sink c.take_image.new.shelf c.args.out.now) (outside_of g.S.Shelf g.O.Sink c.give_of_madt.new.shelf c.give_of_madt.new.out) (Madtcmp c.args.files.image.now c.args.files.elcr c.args.files.madt.now) due.0 due.1) facts.files_stay due.2),
+      due.3,
+    )
+
+pub returns-in-Ok-clause-asks : goal.returns-in-Ok-clause-asks
+returns-in-Ok-clause-asks g c =
+    let facts = c.in-Ok.ensures in
+    asks-second (g.S.Shelf.files c.args.shelf.now) (Madtcmp c.args.files.image.now c.args.files.elcr c.args.files.madt.now) c.args.files.image.now (AcpiTable c.args.files.madt.now) refl c.in-Ok.tables facts.tables (g.S.Shelf.asked c.args.shelf.now) (g.S.Shelf.asked c.take_image.new.shelf) (g.S.Shelf.asked c.give_of_madt.new.shelf) facts.asks
+    (subst (λ (t : Option Files). g.S.Shelf.asked c.give_of_madt.new.shelf ≤ g.S.Shelf.asked c.take_image.new.shelf + most_of t (AcpiTable c.args.files.madt.now)) facts.files_stay c.give_of_madt.ensures.asks)
+
+pub returns-in-Err-clause-due : goal.returns-in-Err-clause-due
+returns-in-Err-clause-due g c =
+    let ending = c.in-Err.ending in (
+      ending_status ending,
+      ending_text c.args.files.image.now ending,
+      image-ends (g.S.Shelf.files c.args.shelf.now) (Madtcmp c.args.files.image.now c.args.files.elcr c.args.files.madt.now) c.args.files.image.now (AcpiTable c.args.files.madt.now) refl (outside_of g.S.Shelf g.O.Sink c.args.shelf.now c.args.out.now) (outside_of g.S.Shelf g.O.Sink c.take_image.new.shelf c.refuse.new.out) ending c.in-Err.ensures.ends,
+      c.refuse.ensures,
+    )
+
+pub returns-in-Err-clause-asks : goal.returns-in-Err-clause-asks
+returns-in-Err-clause-asks g c = asks-image (g.S.Shelf.files c.args.shelf.now) (Madtcmp c.args.files.image.now c.args.files.elcr c.args.files.madt.now) c.args.files.image.now (AcpiTable c.args.files.madt.now) refl (g.S.Shelf.asked c.args.shelf.now) (g.S.Shelf.asked c.take_image.new.shelf) c.in-Err.ensures.asks

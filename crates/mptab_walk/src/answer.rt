@@ -1,0 +1,159 @@
+//! What the tables give each form: a status and a text.
+
+ghost use Rattle.std.specs.Prelude.{◌≡◌, ◌<◌, ◌^◌, IfOk};
+ghost use Rattle.mpt_base.specs.Bytes.{IsByteList};
+ghost use Rattle.mpt_spec.specs.Canonical.{IsWellFormed, FitsInImage};
+ghost use Rattle.mptab_walk.specs.Commands.{IsShown, IsAudited, IsMadeCanonical, IsRaised, IsMadtMade, IsPirMade, IsBuilt, IsRouted, IsAnswerTo, IsReadyFor};
+
+use crate::refusals::{many_processors, unfit, unmade_pir};
+use crate::status::{DONE, FINDINGS};
+use crate::words::TablesCommand;
+use mpf_madt::{TranslateFault, translate, write_madt};
+use mpf_pir::{make, write_pir};
+use mpt_answers::{print_findings, print_routes};
+use mpt_audit::audit;
+use mpt_base::NoMemory;
+use mpt_listing::print;
+use mpt_route::{platform_of, routes};
+use mpt_table::Tables;
+use mpt_write::{block_bytes, canon, fits, raise, write_image};
+use std::alloc::Global;
+
+/// A status and the text that goes with it.
+#[derive(Drop)]
+pub struct Answer {
+    pub status: u8,
+    pub text: Vec<u8>,
+}
+
+/// Status and text that the tables give the form.
+pub(crate) fn answer_to(
+    alloc: Global,
+    command: TablesCommand,
+    tables: Tables,
+) -> Result<Answer, NoMemory>
+    requires well_formed { IsWellFormed tables }
+    requires low { tables.at < 2 ^ 32 }
+    requires ready { IsReadyFor command tables }
+    ensures { IfOk result (λ answer. IsAnswerTo command.entry tables answer.status answer.text.items) }
+{
+    match command {
+        TablesCommand::Show(_) => shown(alloc, &tables),
+        TablesCommand::Audit(_) => audited(alloc, &tables),
+        TablesCommand::Canon(_) => canonical(alloc, tables),
+        TablesCommand::Raise(_) => raised(alloc, tables),
+        TablesCommand::Madt(_, elcr) => madt_made(alloc, &tables, elcr),
+        TablesCommand::Pirmake(_) => pir_made(alloc, &tables),
+        TablesCommand::Build(_) => built(alloc, &tables),
+        TablesCommand::Route(_, elcr) => routed(alloc, &tables, elcr),
+    }
+}
+
+// the listing
+fn shown(alloc: Global, tables: &Tables) -> Result<Answer, NoMemory>
+    ensures { IfOk result (λ answer. IsShown tables.now answer.status answer.text.items) }
+{
+    let text = print(alloc, tables)?;
+    Ok(Answer { status: DONE, text })
+}
+
+// the findings, and 1 where there is one
+fn audited(alloc: Global, tables: &Tables) -> Result<Answer, NoMemory>
+    requires { IsWellFormed tables.now }
+    ensures { IfOk result (λ answer. IsAudited tables.now answer.status answer.text.items) }
+{
+    let findings = audit(alloc, tables)?;
+    let text = print_findings(alloc, findings.as_slice())?;
+    let status = if findings.is_empty() { DONE } else { FINDINGS };
+    Ok(Answer { status, text })
+}
+
+// the image of the canonical form, or how many bytes don't fit
+fn canonical(alloc: Global, tables: Tables) -> Result<Answer, NoMemory>
+    requires { IsWellFormed tables }
+    ensures { IfOk result (λ answer. IsMadeCanonical tables answer.status answer.text.items) }
+{
+    if fits(&tables) {
+        let canonical = canon(alloc, tables)?;
+        let text = write_image(alloc, &canonical)?;
+        Ok(Answer { status: DONE, text })
+    } else {
+        unfit(alloc, block_bytes(&tables))
+    }
+}
+
+// the image of the raised tables, or how many bytes don't fit
+fn raised(alloc: Global, tables: Tables) -> Result<Answer, NoMemory>
+    requires { IsWellFormed tables }
+    ensures { IfOk result (λ answer. IsRaised tables answer.status answer.text.items) }
+{
+    if fits(&tables) {
+        let mut raised = tables;
+        raise(&mut raised);
+        let text = write_image(alloc, &raised)?;
+        Ok(Answer { status: DONE, text })
+    } else {
+        unfit(alloc, block_bytes(&tables))
+    }
+}
+
+// the image
+fn built(alloc: Global, tables: &Tables) -> Result<Answer, NoMemory>
+    requires { FitsInImage tables.now }
+    ensures { IfOk result (λ answer. IsBuilt tables.now answer.status answer.text.items) }
+{
+    let text = write_image(alloc, tables)?;
+    Ok(Answer { status: DONE, text })
+}
+
+// the routes
+fn routed(alloc: Global, tables: &Tables, elcr: u16) -> Result<Answer, NoMemory>
+    requires { IsWellFormed tables.now }
+    ensures { IfOk result (λ answer. IsRouted elcr tables.now answer.status answer.text.items) }
+{
+    let platform = platform_of(alloc, tables)?;
+    let answers = routes(alloc, &platform, elcr)?;
+    let text = print_routes(alloc, answers.as_slice())?;
+    Ok(Answer { status: DONE, text })
+}
+
+// each member of a list of bytes is one
+fn are_bytes(bytes: &[u8])
+    ensures { IsByteList bytes.now }
+{
+    let _bytes = bytes;
+}
+
+// the MADT, or how many processors are too many
+fn madt_made(alloc: Global, tables: &Tables, elcr: u16) -> Result<Answer, NoMemory>
+    requires { IsWellFormed tables.now }
+    ensures { IfOk result (λ answer. IsMadtMade elcr tables.now answer.status answer.text.items) }
+{
+    let platform = platform_of(alloc, tables)?;
+    let answers = routes(alloc, &platform, elcr)?;
+    match translate(alloc, &platform, answers.as_slice()) {
+        Ok(madt) => {
+            let text = write_madt(alloc, &madt)?;
+            are_bytes(text.as_slice());
+            Ok(Answer { status: DONE, text })
+        }
+        Err(TranslateFault::ManyProcessors { n }) => many_processors(alloc, n),
+        Err(TranslateFault::NoMemory) => Err(NoMemory),
+    }
+}
+
+// the PCI IRQ routing table, or how many slots or links are too many
+fn pir_made(alloc: Global, tables: &Tables) -> Result<Answer, NoMemory>
+    requires { IsWellFormed tables.now }
+    ensures { IfOk result (λ answer. IsPirMade tables.now answer.status answer.text.items) }
+{
+    let platform = platform_of(alloc, tables)?;
+    match make(alloc, &platform) {
+        Ok(pir) => {
+            let text = write_pir(alloc, &pir)?;
+            are_bytes(text.as_slice());
+            Ok(Answer { status: DONE, text })
+        }
+        Err(fault) => unmade_pir(alloc, fault),
+    }
+}

@@ -1,0 +1,36 @@
+//! What a form over tables gives.
+
+ghost use Rattle.std.specs.Prelude.{◌≡◌, ◌≤◌, ◌+◌, ℕ, List};
+ghost use Rattle.mptab_walk.specs.Forms.{files_of, form_of_tables};
+ghost use Rattle.mptab_walk.specs.Walk.{IsDueOf, IsDelivered, AsksOf, outside_of};
+
+use crate::answer::answer_to;
+use crate::delivery::deliver_text;
+use crate::ending::{Ending, refuse};
+use crate::source::take;
+use crate::words::{TablesCommand, name_in, source_named};
+use mpt_base::{NoMemory, Shelf, Sink};
+use std::alloc::Global;
+
+/// Does what a form over tables says, and answers the status.
+pub fn give_of_tables<S: Shelf, O: Sink>(
+    alloc: Global,
+    command: TablesCommand,
+    shelf: &mut S,
+    out: &mut O,
+) -> u8
+    ensures due { (status : ℕ) × (text : List ℕ)
+        × IsDueOf (S.files shelf.old) (outside_of S.Shelf O.Sink shelf.old out.old) (outside_of S.Shelf O.Sink shelf.new out.new) (form_of_tables command.entry) status text
+        × IsDelivered (outside_of S.Shelf O.Sink shelf.old out.old) (outside_of S.Shelf O.Sink shelf.new out.new) result status text }
+    ensures files_stay { S.files shelf.new ≡ S.files shelf.old }
+    ensures asks { (n : ℕ) × (S.asked shelf.new ≤ S.asked shelf.old + n) × AsksOf (S.files shelf.old) (files_of (form_of_tables command.entry)) n }
+{
+    let source = source_named(command);
+    match take(alloc, source, shelf) {
+        Ok(tables) => match answer_to(alloc, command, tables) {
+            Ok(answer) => deliver_text(out, answer.status, answer.text.as_slice()),
+            Err(NoMemory) => refuse(name_in(source), Ending::NoMemory, out),
+        },
+        Err(ending) => refuse(name_in(source), ending, out),
+    }
+}
