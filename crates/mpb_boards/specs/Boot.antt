@@ -21,7 +21,7 @@ use Rattle.mpb_spec.specs.declared.pulse.Pulse.{Pulse}
 use Rattle.mpb_spec.specs.declared.pulse.Hit.{Hit}
 use Rattle.mpb_robin.specs.Account.{AccountsForPulses}
 use Rattle.mpb_robin.specs.RoundRobin.{IsRoundRobinOf}
-use Rattle.mpb_report.specs.Report.{report_of}
+use Rattle.mpb_report_spec.specs.Report.{report_of}
 
 -- the board that the tables and the script describe
 abbrev pub board_of : Tables → Script → Plan

@@ -13,7 +13,7 @@ use Rattle.mpb_script.specs.declared.script.KeyName.{KeyName}
 use Rattle.mpb_script.specs.declared.script.KeyName.TheVariants as key
 use Rattle.mpb_script.specs.declared.script.ScriptFault.{ScriptFault}
 use Rattle.mpb_script.specs.declared.script.ScriptFault.TheVariants as fault
-use Rattle.mpb_report.specs.EntryLines.{agent_text}
+use Rattle.mpb_report_spec.specs.EntryLines.{agent_text}
 use Rattle.mpb_replay_laws.specs.declared.verdict.BadWhy.{BadWhy}
 use Rattle.mpb_replay_laws.specs.declared.verdict.BadWhy.TheVariants as bad_why
 use Rattle.mpb_replay_laws.specs.declared.verdict.Verdict.{Verdict}

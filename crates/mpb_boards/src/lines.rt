@@ -5,7 +5,7 @@ ghost use Rattle.std.specs.List.{concat};
 ghost use Rattle.mpt_listing.specs.Listing.{line, hex};
 ghost use Rattle.mpt_listing.specs.Part.{part_text};
 ghost use Rattle.mpb_script.specs.declared.script.ScriptFault.TheVariants.{Word};
-ghost use Rattle.mpb_report.specs.EntryLines.{agent_text};
+ghost use Rattle.mpb_report_spec.specs.EntryLines.{agent_text};
 ghost use Rattle.mpb_replay_laws.specs.declared.verdict.Verdict.TheVariants.{Unfinished};
 ghost use Rattle.mpb_boards.specs.Lines.{key_text, word_why_text, script_fault_line, board_fault_line, IsScriptFault, IsBoardFault, bad_why_text, verdict_line};
 

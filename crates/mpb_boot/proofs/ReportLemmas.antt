@@ -10,7 +10,7 @@ use Rattle.mpb_spec.specs.declared.pulse.Pulse.{Pulse}
 use Rattle.mpb_spec.specs.declared.pulse.Hit.{Hit}
 use Rattle.mpb_robin.specs.Account.{AccountsForPulses}
 use Rattle.mpb_robin.specs.RoundRobin.{IsRoundRobinOf}
-use Rattle.mpb_report.specs.Report.{report_of}
+use Rattle.mpb_report_spec.specs.Report.{report_of}
 use Rattle.mpb_boards.specs.Boot.{IsTraceOf, IsWholeRunOf, IsBootOf}
 
 module _ (c p : Plan) (journal : List Entry) (logs : List (List (Pulse × Hit))) (plan : p ≡ c) where

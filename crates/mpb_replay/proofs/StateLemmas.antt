@@ -14,7 +14,7 @@ use Rattle.mpb_spec.proofs.StateLemmas.{got_at, got_beyond}
 use Rattle.mpb_laws.proofs.PartsStay.{ids_stay}
 use Rattle.mpb_start_laws.proofs.Lists.{read_here}
 use Rattle.mpb_start_laws.proofs.Processors.{found_member}
-use Rattle.mpb_report.specs.StateLines.{members}
+use Rattle.mpb_report_spec.specs.StateLines.{members}
 use Rattle.mpb_report_line.specs.declared.report.CpuLine.{CpuLine}
 use Rattle.mpb_report_line.specs.declared.report.IoLine.{IoLine}
 use Rattle.mpb_report_line.specs.declared.report.Report.{Report}

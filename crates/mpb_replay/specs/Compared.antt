@@ -20,7 +20,7 @@ use Rattle.mpb_spec.specs.declared.pulse.Pulse.{Pulse}
 use Rattle.mpb_spec.specs.declared.pulse.Hit.{Hit}
 use Rattle.mpb_spec.specs.LocalApic.{LocalApic}
 use Rattle.mpb_spec.specs.State.{Processor}
-use Rattle.mpb_report.specs.StateLines.{members}
+use Rattle.mpb_report_spec.specs.StateLines.{members}
 use Rattle.mpb_spec.specs.IoApic.{IoChip, mask_by}
 use Rattle.mpb_report_line.specs.declared.report.CpuLine.{CpuLine}
 use Rattle.mpb_report_line.specs.declared.report.IoLine.{IoLine}

@@ -4,7 +4,7 @@ ghost use Rattle.std.specs.Prelude.{◌≡◌, ◌≢◌, ◌<◌, ◌+◌, Matc
 ghost use Rattle.mpb_spec.specs.State.{processor_of};
 ghost use Rattle.mpb_board.specs.BoardView.{state_of};
 ghost use Rattle.mpb_report.specs.Found.{register_of};
-ghost use Rattle.mpb_report.specs.StateLines.{members};
+ghost use Rattle.mpb_report_spec.specs.StateLines.{members};
 ghost use Rattle.mpb_replay_laws.specs.Differences.{IsFirstDifference};
 ghost use Rattle.mpb_replay_laws.specs.Lines.{cpu_line_in, io_line_in, line_of_processor, line_of_place, lines_in, lines_of};
 ghost use Rattle.mpb_replay.specs.Compared.{IsSameAt, HasRegisters, IsLineOf, IsLineOfChip};

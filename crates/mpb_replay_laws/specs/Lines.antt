@@ -7,7 +7,7 @@ use Rattle.mpb_spec.specs.declared.config.Life.{Life}
 use Rattle.mpb_spec.specs.declared.config.Imcr.{Imcr}
 use Rattle.mpb_spec.specs.IoApic.{mask_by}
 use Rattle.mpb_spec.specs.State.{Processor, Place, BoardState}
-use Rattle.mpb_report.specs.StateLines.{members}
+use Rattle.mpb_report_spec.specs.StateLines.{members}
 use Rattle.mpb_report_line.specs.declared.report.CpuLine.{CpuLine}
 use Rattle.mpb_report_line.specs.declared.report.IoLine.{IoLine}
 use Rattle.mpb_report_line.specs.declared.report.Report.{Report}

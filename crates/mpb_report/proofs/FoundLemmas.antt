@@ -11,8 +11,8 @@ use Rattle.mpb_spec.specs.State.{Processor, Place, processor_of}
 use Rattle.mpb_spec.specs.Journal.{final_state_of}
 use Rattle.mpb_spec.proofs.StateLemmas.{got_at}
 use Rattle.mpb_laws.proofs.PartsStay.{ids_stay}
-use Rattle.mpb_report.specs.Numbered.{numbered}
-use Rattle.mpb_report.specs.StateLines.{processor_line, place_line}
+use Rattle.mpb_report_spec.specs.Numbered.{numbered}
+use Rattle.mpb_report_spec.specs.StateLines.{processor_line, place_line}
 use Rattle.mpb_report.specs.Found.{found_cpu, found_io}
 use Rattle.mpb_report.proofs.LineLemmas.{numbered_more}
 

@@ -4,7 +4,7 @@ use Rattle.std.proofs.lemmas.Bool.{ne_eqb, eqb-true, eqb-false}
 use Rattle.std.proofs.lemmas.List.{append-nil}
 use Rattle.std.specs.List.{AllByRecursion, range_with_len}
 use Rattle.mpb_spec.specs.Numbers.{has, IsAscending}
-use Rattle.mpb_report.specs.StateLines.{members, members_below}
+use Rattle.mpb_report_spec.specs.StateLines.{members, members_below}
 
 range-more : (a n : ℕ) → range_with_len a (suc n) ≡ range_with_len a n ++ (a + n) ∷ []
 range-more a zero = let e : a + 0 ≡ a = omega arith in rw e refl

@@ -7,7 +7,7 @@ use Rattle.mpb_report.specs.declared.vectors.Register.{Register}
 use Rattle.mpb_report.specs.declared.vectors.Register.TheVariants.{Irr, Isr, Tmr}
 use Rattle.mpb_spec.specs.LocalApic.{LocalApic}
 use Rattle.mpb_spec.specs.State.{Processor, Place}
-use Rattle.mpb_report.specs.StateLines.{cpu_line, io_line}
+use Rattle.mpb_report_spec.specs.StateLines.{cpu_line, io_line}
 
 -- the vectors of a register
 abbrev pub register_of : Register → LocalApic → List ℕ

@@ -1,6 +1,1 @@
-pub mod Numbered
-pub mod EntryLines
-pub mod LogLines
-pub mod StateLines
-pub mod Report
 pub mod Found

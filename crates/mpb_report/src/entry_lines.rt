@@ -3,8 +3,8 @@
 ghost use Rattle.std.specs.Prelude.{◌≡◌, ◌++◌, ◌∷◌, [], OnOk, codes};
 ghost use Rattle.std.specs.List.{concat, flat_map};
 ghost use Rattle.mpt_listing.specs.Listing.{hex};
-ghost use Rattle.mpb_report.specs.Numbered.{numbered};
-ghost use Rattle.mpb_report.specs.EntryLines.{agent_text, op_text, trigger_text, what_text, has_target, further_outcome, entry_line};
+ghost use Rattle.mpb_report_spec.specs.Numbered.{numbered};
+ghost use Rattle.mpb_report_spec.specs.EntryLines.{agent_text, op_text, trigger_text, what_text, has_target, further_outcome, entry_line};
 
 use crate::digits::{digit, push_six, push_two};
 use crate::parts::push_parts;

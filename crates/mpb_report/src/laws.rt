@@ -3,7 +3,7 @@
 ghost use Rattle.std.specs.Prelude.{◌≡◌, ◌<◌, ℕ, List};
 ghost use Rattle.std.specs.List.{AllByRecursion};
 ghost use Rattle.mpb_spec.specs.Numbers.{IsAscending};
-ghost use Rattle.mpb_report.specs.StateLines.{members};
+ghost use Rattle.mpb_report_spec.specs.StateLines.{members};
 
 /// Of a set of vectors, which is kept as an ascending list, just the set is printed.
 pub fn sets_are_printed_whole()

@@ -2,8 +2,8 @@
 
 ghost use Rattle.std.specs.Prelude.{◌≡◌, ◌++◌, OnOk, map};
 ghost use Rattle.std.specs.List.{concat, flat_map};
-ghost use Rattle.mpb_report.specs.Numbered.{numbered};
-ghost use Rattle.mpb_report.specs.LogLines.{hit_text, pulse_text, pulses_text, log_line};
+ghost use Rattle.mpb_report_spec.specs.Numbered.{numbered};
+ghost use Rattle.mpb_report_spec.specs.LogLines.{hit_text, pulse_text, pulses_text, log_line};
 
 use crate::parts::push_parts;
 use mpb_spec::{Hit, Pulse};

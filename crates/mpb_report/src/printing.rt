@@ -3,7 +3,7 @@
 ghost use Rattle.std.specs.Prelude.{◌≡◌, ◌++◌, IfOk, OnOk};
 ghost use Rattle.std.specs.List.{concat};
 ghost use Rattle.mpb_spec.specs.Pulses.{logs_of};
-ghost use Rattle.mpb_report.specs.Report.{journal_lines, report_of};
+ghost use Rattle.mpb_report_spec.specs.Report.{journal_lines, report_of};
 
 use crate::entry_lines::push_entry_lines;
 use crate::log_lines::push_log_lines;

@@ -4,8 +4,8 @@ ghost use Rattle.std.specs.Prelude.{◌≡◌, ◌≤◌, ◌++◌, OnOk, map, s
 ghost use Rattle.std.specs.List.{concat};
 ghost use Rattle.mpb_spec.specs.State.{processor_of};
 ghost use Rattle.mpb_board.specs.BoardView.{state_of};
-ghost use Rattle.mpb_report.specs.Numbered.{numbered};
-ghost use Rattle.mpb_report.specs.StateLines.{imcr_text, imcr_line, life_text, registers_text, cpu_line, processor_line, io_line, place_line, state_lines};
+ghost use Rattle.mpb_report_spec.specs.Numbered.{numbered};
+ghost use Rattle.mpb_report_spec.specs.StateLines.{imcr_text, imcr_line, life_text, registers_text, cpu_line, processor_line, io_line, place_line, state_lines};
 ghost use Rattle.mpb_report.specs.Found.{found_cpu, found_io};
 
 use crate::parts::push_parts;

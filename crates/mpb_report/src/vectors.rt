@@ -3,7 +3,7 @@
 ghost use Rattle.std.specs.Prelude.{◌≡◌, ◌++◌, OnOk};
 ghost use Rattle.std.specs.List.{flat_map};
 ghost use Rattle.mpb_spec.specs.Numbers.{has};
-ghost use Rattle.mpb_report.specs.StateLines.{members, further_vector, vectors_text};
+ghost use Rattle.mpb_report_spec.specs.StateLines.{members, further_vector, vectors_text};
 ghost use Rattle.mpb_report.specs.Found.{register_of};
 
 use arrayvec::ArrayVec;

@@ -6,10 +6,10 @@ use Rattle.mpb_spec.specs.declared.config.Imcr.{Imcr}
 use Rattle.mpb_spec.specs.declared.entry.Entry.{Entry}
 use Rattle.mpb_spec.specs.declared.pulse.Pulse.{Pulse}
 use Rattle.mpb_spec.specs.declared.pulse.Hit.{Hit}
-use Rattle.mpb_report.specs.EntryLines.{entry_line}
-use Rattle.mpb_report.specs.LogLines.{log_line}
-use Rattle.mpb_report.specs.StateLines.{imcr_line}
-use Rattle.mpb_report.specs.Report.{title_line, end_line}
+use Rattle.mpb_report_spec.specs.EntryLines.{entry_line}
+use Rattle.mpb_report_spec.specs.LogLines.{log_line}
+use Rattle.mpb_report_spec.specs.StateLines.{imcr_line}
+use Rattle.mpb_report_spec.specs.Report.{title_line, end_line}
 use Rattle.mpt_line.specs.Lines.{BeginsWith}
 use Rattle.mpt_line.proofs.Exact.{IsExact, reads_none, some_is}
 use Rattle.mpt_line.proofs.CallerLemmas.{HasFirstLine, text-first}

@@ -35,11 +35,11 @@ use Rattle.mpb_spec.specs.Configs.{IsConfig}
 use Rattle.mpb_spec.specs.Journal.{IsLegal, final_state_of}
 use Rattle.mpb_spec.specs.Room.{room}
 use Rattle.mpb_laws.proofs.RoomSum.{within_room}
-use Rattle.mpb_report.specs.EntryLines.{agent_text, op_text, trigger_text, what_text, has_target, outcome_text, further_outcome, entry_line}
-use Rattle.mpb_report.specs.LogLines.{hit_text, pulse_text, pulses_text, log_line}
-use Rattle.mpb_report.specs.Numbered.{numbered}
-use Rattle.mpb_report.specs.StateLines.{imcr_text, imcr_line, life_text, members_below, members, further_vector, vectors_text, registers_text, processor_line, place_line, state_lines}
-use Rattle.mpb_report.specs.Report.{title_line, count_line, end_line, journal_lines, report_lines, report_of}
+use Rattle.mpb_report_spec.specs.EntryLines.{agent_text, op_text, trigger_text, what_text, has_target, outcome_text, further_outcome, entry_line}
+use Rattle.mpb_report_spec.specs.LogLines.{hit_text, pulse_text, pulses_text, log_line}
+use Rattle.mpb_report_spec.specs.Numbered.{numbered}
+use Rattle.mpb_report_spec.specs.StateLines.{imcr_text, imcr_line, life_text, members_below, members, further_vector, vectors_text, registers_text, processor_line, place_line, state_lines}
+use Rattle.mpb_report_spec.specs.Report.{title_line, count_line, end_line, journal_lines, report_lines, report_of}
 use Rattle.mpb_report_parse.specs.Reports.{HasReport, shown_report}
 use Rattle.mpb_report_laws.specs.Values.{HasOpValues}
 use Rattle.mpb_report_laws.proofs.Fitting.{IsFit}

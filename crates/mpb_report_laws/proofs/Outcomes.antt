@@ -37,7 +37,7 @@ use Rattle.mpb_spec.specs.Steps.{next_op, op_of_device, op_of_place, unless_earl
 use Rattle.mpb_spec.specs.Outcomes.{only, found, found_alive, what_taken, taken_by, what_ended, ended_by, what_effect, of_write, of_read, of_line, of_collect, outcomes_of, outcomes_of_cpu, outcomes_of_dev}
 use Rattle.mpb_spec.specs.Journal.{IsStep, AreSteps, after_entry}
 use Rattle.mpb_spec.proofs.May.{may_cpu}
-use Rattle.mpb_report.specs.EntryLines.{has_target}
+use Rattle.mpb_report_spec.specs.EntryLines.{has_target}
 use Rattle.mpb_report_line.specs.Values.{IsRightAgent, IsRightOp, IsRightWhat, IsRightTarget, IsRightOutcome, IsRightEntry, IsRightLife}
 use Rattle.mpb_report_laws.proofs.RightOps.{all-filter, all-map, one-at, place-below}
 use Rattle.mpb_report_laws.proofs.Fitting.{IsFitApic, IsFitProcessor, IsFitPin, IsFitPlace, IsFitDevice, IsFitPage, IsFit, IsFitDelivery, IsFitMessage, greatest-fit, next-fit, due-fit, kind-fits, step_fits}

@@ -24,8 +24,8 @@ use Rattle.mpb_spec.specs.Pulses.{pulses_in}
 use Rattle.mpb_robin.specs.Account.{AccountsForPulses}
 use Rattle.mpb_robin.specs.RoundRobin.{IsRoundRobinOf}
 use Rattle.mpb_robin.proofs.AtTheEnd.{is_complete, is_accounted}
-use Rattle.mpb_report.specs.StateLines.{members, members_below}
-use Rattle.mpb_report.specs.Report.{report_of}
+use Rattle.mpb_report_spec.specs.StateLines.{members, members_below}
+use Rattle.mpb_report_spec.specs.Report.{report_of}
 use Rattle.mpb_report_line.specs.declared.report.Report.{Report}
 use Rattle.mpb_report_line.specs.Values.{IsRightOp, IsRightLife, AreRightVectors, IsRightCpu, IsRightIo, IsRightLog}
 use Rattle.mpb_report_parse.specs.Reports.{HasReport, IsReportOf, lines_of, shown_cpu, shown_io, shown_report}

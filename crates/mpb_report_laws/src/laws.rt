@@ -19,7 +19,7 @@ ghost use Rattle.mpb_setup.specs.Board.{enabled_ids, board_config_of};
 ghost use Rattle.mpb_setup.specs.Faults.{board_fault_of};
 ghost use Rattle.mpb_robin.specs.Account.{AccountsForPulses};
 ghost use Rattle.mpb_robin.specs.RoundRobin.{IsRoundRobinOf};
-ghost use Rattle.mpb_report.specs.Report.{report_of};
+ghost use Rattle.mpb_report_spec.specs.Report.{report_of};
 ghost use Rattle.mpb_report_line.specs.declared.report.Report.{Report as ReportOf};
 ghost use Rattle.mpt_parse.specs.declared.fault.LineWhy.{LineWhy as WhyOf};
 ghost use Rattle.mpt_parse.specs.Listings.{IsFirstBadLine};

@@ -5,7 +5,7 @@ use Rattle.std.specs.List.{flat_map}
 use Rattle.mpt_line.proofs.Exact.{IsExact, after-exact, both-exact, seen_as-exact, value-exact}
 use Rattle.mpb_spec.specs.declared.entry.Entry.{Entry}
 use Rattle.mpb_spec.specs.declared.entry.Outcome.{Outcome}
-use Rattle.mpb_report.specs.EntryLines.{agent_text, op_text, further_outcome, entry_line}
+use Rattle.mpb_report_spec.specs.EntryLines.{agent_text, op_text, further_outcome, entry_line}
 use Rattle.mpb_report_line.specs.Values.{IsRightEntry}
 use Rattle.mpb_report_line.specs.Reading.{is_filled}
 use Rattle.mpb_report_line.specs.Forms.{entry_in}

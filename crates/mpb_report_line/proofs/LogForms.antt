@@ -8,7 +8,7 @@ use Rattle.mpb_spec.specs.declared.pulse.Pulse.{Pulse}
 use Rattle.mpb_spec.specs.declared.pulse.Hit.{Hit}
 use Rattle.mpb_spec.specs.declared.pulse.Hit.TheVariants.{New, Merged}
 use Rattle.mpb_spec.specs.Pulses.{IsInRange}
-use Rattle.mpb_report.specs.LogLines.{hit_text, pulse_text, pulses_text, log_line}
+use Rattle.mpb_report_spec.specs.LogLines.{hit_text, pulse_text, pulses_text, log_line}
 use Rattle.mpb_report_line.specs.Values.{IsRightLog}
 use Rattle.mpb_report_line.specs.Reading.{named, place_in, is_filled, items_in}
 use Rattle.mpb_report_line.specs.Forms.{colon, hit_in, pulse_in, pulses_in, log_in}

@@ -10,7 +10,7 @@ use Rattle.mpb_spec.specs.declared.agent.Agent.{Agent}
 use Rattle.mpb_spec.specs.declared.agent.Agent.TheVariants.{Cpu, Io, Dev}
 use Rattle.mpb_spec.specs.declared.agent.Op.{Op}
 use Rattle.mpb_spec.specs.declared.agent.Op.TheVariants as op
-use Rattle.mpb_report.specs.EntryLines.{agent_text, op_text}
+use Rattle.mpb_report_spec.specs.EntryLines.{agent_text, op_text}
 use Rattle.mpb_report_line.specs.Values.{IsRightAgent, IsRightOp}
 use Rattle.mpb_report_line.specs.Reading.{before, named, up_to_in, place_in}
 use Rattle.mpb_report_line.specs.Forms.{agent_in, colon, bare_op_in, byte_word_in, byte_op_in, bytes_word_in, place_word_in, pin_word_in, two_op_in, pin_op_in, logical_op_in, op_in}

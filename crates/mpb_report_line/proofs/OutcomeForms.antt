@@ -10,7 +10,7 @@ use Rattle.mpt_line.proofs.Digits.{hex-exact, field-exact}
 use Rattle.mpb_spec.specs.declared.entry.Outcome.{Outcome}
 use Rattle.mpb_spec.specs.declared.entry.What.{What}
 use Rattle.mpb_spec.specs.declared.entry.What.TheVariants as what
-use Rattle.mpb_report.specs.EntryLines.{trigger_text, what_text, has_target, outcome_text, further_outcome}
+use Rattle.mpb_report_spec.specs.EntryLines.{trigger_text, what_text, has_target, outcome_text, further_outcome}
 use Rattle.mpb_report_line.specs.Values.{IsRightWhat, IsRightTarget, IsRightOutcome}
 use Rattle.mpb_report_line.specs.Reading.{before, named, is_filled}
 use Rattle.mpb_report_line.specs.Forms.{target_word_in, target_what_in, trigger_in, bare_word_in, bare_what_in, outcome_in, outcomes_in}

@@ -13,7 +13,7 @@ use Rattle.mpb_spec.specs.declared.config.Life.TheVariants as life
 use Rattle.mpb_spec.specs.declared.config.Imcr.{Imcr}
 use Rattle.mpb_spec.specs.declared.config.Imcr.TheVariants as imcr
 use Rattle.mpb_spec.specs.Numbers.{IsAscending, AreBytes}
-use Rattle.mpb_report.specs.StateLines.{imcr_text, imcr_line, life_text, further_vector, vectors_text}
+use Rattle.mpb_report_spec.specs.StateLines.{imcr_text, imcr_line, life_text, further_vector, vectors_text}
 use Rattle.mpb_report_line.specs.declared.report.CpuLine.{CpuLine}
 use Rattle.mpb_report_line.specs.declared.report.IoLine.{IoLine}
 use Rattle.mpb_report_line.specs.Lines.{cpu_text, io_text}

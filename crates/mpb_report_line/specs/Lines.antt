@@ -4,7 +4,7 @@
 --     io_text a x          the line of the I/O APIC at place a
 use Rattle.std.specs.Prelude.{ℕ, List, [], ◌∷◌, codes, decimal}
 use Rattle.mpt_listing.specs.Listing.{line, hex}
-use Rattle.mpb_report.specs.StateLines.{life_text, vectors_text}
+use Rattle.mpb_report_spec.specs.StateLines.{life_text, vectors_text}
 use Rattle.mpb_report_line.specs.declared.report.CpuLine.{CpuLine}
 use Rattle.mpb_report_line.specs.declared.report.IoLine.{IoLine}
 use Rattle.mpb_report_line.specs.Numerals.{numeral}

@@ -17,7 +17,7 @@ use Rattle.mpb_spec.specs.Numbers.{IsAscending}
 use Rattle.mpb_spec.specs.declared.pulse.Pulse.{Pulse}
 use Rattle.mpb_spec.specs.declared.pulse.Hit.{Hit}
 use Rattle.mpb_spec.specs.Pulses.{IsInRange}
-use Rattle.mpb_report.specs.EntryLines.{has_target}
+use Rattle.mpb_report_spec.specs.EntryLines.{has_target}
 use Rattle.mpb_report_line.specs.declared.report.CpuLine.{CpuLine}
 use Rattle.mpb_report_line.specs.declared.report.IoLine.{IoLine}
 

@@ -3,7 +3,7 @@
 ghost use Rattle.std.specs.Prelude.{◌≡◌, IfSome, IfNone};
 ghost use Rattle.mpt_line.specs.Reading.{Gives};
 ghost use Rattle.mpt_line.specs.Lines.{BeginsWith, BeginsWithNone};
-ghost use Rattle.mpb_report.specs.EntryLines.{entry_line};
+ghost use Rattle.mpb_report_spec.specs.EntryLines.{entry_line};
 ghost use Rattle.mpb_report_line.specs.Values.{IsRightEntry};
 ghost use Rattle.mpb_report_line.specs.Forms.{entry_in};
 

@@ -3,7 +3,7 @@
 ghost use Rattle.std.specs.Prelude.{◌≡◌, IfSome, IfNone, codes, ⊤, ℕ};
 ghost use Rattle.mpt_line.specs.Reading.{Gives, hex_in, field_in, both, ended};
 ghost use Rattle.mpt_line.specs.Lines.{BeginsWith, BeginsWithNone};
-ghost use Rattle.mpb_report.specs.StateLines.{imcr_line};
+ghost use Rattle.mpb_report_spec.specs.StateLines.{imcr_line};
 ghost use Rattle.mpb_report_line.specs.Lines.{io_text};
 ghost use Rattle.mpb_report_line.specs.Values.{IsRightImcr, IsRightIo};
 ghost use Rattle.mpb_report_line.specs.Forms.{imcr_in, io_in};

@@ -3,7 +3,7 @@
 ghost use Rattle.std.specs.Prelude.{◌≡◌, ◌++◌, ◌<◌, IfSome, IfNone, IfOk, length};
 ghost use Rattle.mpt_line.specs.Reading.{Gives};
 ghost use Rattle.mpt_line.specs.Lines.{BeginsWith, BeginsWithNone};
-ghost use Rattle.mpb_report.specs.LogLines.{log_line};
+ghost use Rattle.mpb_report_spec.specs.LogLines.{log_line};
 ghost use Rattle.mpb_report_line.specs.Values.{IsRightLog};
 ghost use Rattle.mpb_report_line.specs.Reading.{run_of};
 ghost use Rattle.mpb_report_line.specs.Forms.{hit_in, pulse_in, pulses_in, log_in};

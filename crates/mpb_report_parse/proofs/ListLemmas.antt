@@ -5,8 +5,8 @@ use Rattle.mpt_line.specs.Lines.{BeginsWith, BeginsWithNone}
 use Rattle.mpt_line.proofs.Exact.{some_is}
 use Rattle.mpb_spec.specs.declared.config.Imcr.{Imcr}
 use Rattle.mpb_spec.specs.declared.entry.Entry.{Entry}
-use Rattle.mpb_report.specs.StateLines.{imcr_line}
-use Rattle.mpb_report.specs.EntryLines.{entry_line}
+use Rattle.mpb_report_spec.specs.StateLines.{imcr_line}
+use Rattle.mpb_report_spec.specs.EntryLines.{entry_line}
 use Rattle.mpb_report_line.specs.declared.report.CpuLine.{CpuLine}
 use Rattle.mpb_report_line.specs.Lines.{cpu_text}
 use Rattle.mpb_report_line.specs.Values.{IsRightEntry, IsRightCpu, IsRightImcr}

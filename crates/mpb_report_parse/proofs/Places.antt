@@ -13,10 +13,10 @@ use Rattle.mpb_spec.specs.declared.entry.Entry.{Entry}
 use Rattle.mpb_spec.specs.declared.entry.What.TheVariants as what
 use Rattle.mpb_spec.specs.declared.pulse.Pulse.{Pulse}
 use Rattle.mpb_spec.specs.declared.pulse.Hit.{Hit}
-use Rattle.mpb_report.specs.EntryLines.{agent_text, op_text, further_outcome, entry_line}
-use Rattle.mpb_report.specs.LogLines.{log_line}
-use Rattle.mpb_report.specs.StateLines.{imcr_line}
-use Rattle.mpb_report.specs.Report.{end_line}
+use Rattle.mpb_report_spec.specs.EntryLines.{agent_text, op_text, further_outcome, entry_line}
+use Rattle.mpb_report_spec.specs.LogLines.{log_line}
+use Rattle.mpb_report_spec.specs.StateLines.{imcr_line}
+use Rattle.mpb_report_spec.specs.Report.{end_line}
 use Rattle.mpb_report_line.specs.declared.report.CpuLine.{CpuLine}
 use Rattle.mpb_report_line.specs.declared.report.IoLine.{IoLine}
 use Rattle.mpb_report_line.specs.Lines.{cpu_text, io_text}

@@ -1,7 +1,7 @@
 -- The fault of a report, one line at a time.
 use Rattle.std.proofs.Common.{◌≡◌, ℕ, ◌+◌, List, [], ◌∷◌, ◌++◌, refl, arith}
 use Rattle.std.specs.Prelude.{◌≢◌}
-use Rattle.mpb_report.specs.Report.{end_line}
+use Rattle.mpb_report_spec.specs.Report.{end_line}
 use Rattle.mpt_parse.specs.declared.fault.LineWhy.TheVariants as why
 use Rattle.mpt_parse.specs.Listings.{IsFirstBadLine}
 use Rattle.mpt_parse.proofs.BadLines.{step_line, narrow_line, stop_line, no_last, no_other_line, late_line}

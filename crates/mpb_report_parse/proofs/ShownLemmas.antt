@@ -9,11 +9,11 @@ use Rattle.mpb_spec.specs.State.{Processor, Place}
 use Rattle.mpb_spec.specs.Journal.{final_state_of}
 use Rattle.mpb_spec.specs.declared.pulse.Pulse.{Pulse}
 use Rattle.mpb_spec.specs.declared.pulse.Hit.{Hit}
-use Rattle.mpb_report.specs.Numbered.{numbered}
-use Rattle.mpb_report.specs.EntryLines.{entry_line}
-use Rattle.mpb_report.specs.LogLines.{log_line}
-use Rattle.mpb_report.specs.StateLines.{imcr_line, processor_line, place_line}
-use Rattle.mpb_report.specs.Report.{title_line, count_line, end_line, report_lines, report_of}
+use Rattle.mpb_report_spec.specs.Numbered.{numbered}
+use Rattle.mpb_report_spec.specs.EntryLines.{entry_line}
+use Rattle.mpb_report_spec.specs.LogLines.{log_line}
+use Rattle.mpb_report_spec.specs.StateLines.{imcr_line, processor_line, place_line}
+use Rattle.mpb_report_spec.specs.Report.{title_line, count_line, end_line, report_lines, report_of}
 use Rattle.mpb_report_line.specs.Lines.{entry_count_line, cpu_text, io_text}
 use Rattle.mpb_report_line.proofs.NumeralLemmas.{decimal_is}
 use Rattle.mpb_report_parse.specs.Reports.{shown_cpu, shown_io, shown_report, lines_of}

@@ -6,10 +6,10 @@ use Rattle.mpt_line.proofs.Exact.{text_is_one}
 use Rattle.mpt_parse.specs.declared.fault.LineWhy.{LineWhy}
 use Rattle.mpt_parse.specs.Listings.{IsLongestValidPrefix, IsFirstBadLine, IsWholeLine}
 use Rattle.mpt_parse.proofs.BadLines.{prefix_one, one_bad_line, member_prefix, member_is_not_bad}
-use Rattle.mpb_report.specs.EntryLines.{entry_line}
-use Rattle.mpb_report.specs.LogLines.{log_line}
-use Rattle.mpb_report.specs.StateLines.{imcr_line}
-use Rattle.mpb_report.specs.Report.{title_line, end_line}
+use Rattle.mpb_report_spec.specs.EntryLines.{entry_line}
+use Rattle.mpb_report_spec.specs.LogLines.{log_line}
+use Rattle.mpb_report_spec.specs.StateLines.{imcr_line}
+use Rattle.mpb_report_spec.specs.Report.{title_line, end_line}
 use Rattle.mpb_report_line.specs.declared.report.Report.{Report}
 use Rattle.mpb_report_line.specs.Lines.{entry_count_line, io_text}
 use Rattle.mpb_report_line.proofs.StateForms.{imcr-exact}

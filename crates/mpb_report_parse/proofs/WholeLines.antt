@@ -22,11 +22,11 @@ use Rattle.mpb_spec.specs.declared.entry.What.TheVariants as what
 use Rattle.mpb_spec.specs.declared.pulse.Pulse.{Pulse}
 use Rattle.mpb_spec.specs.declared.pulse.Hit.{Hit}
 use Rattle.mpb_spec.specs.declared.pulse.Hit.TheVariants as hit
-use Rattle.mpb_report.specs.Numbered.{numbered}
-use Rattle.mpb_report.specs.EntryLines.{agent_text, op_text, trigger_text, what_text, has_target, outcome_text, further_outcome, entry_line}
-use Rattle.mpb_report.specs.LogLines.{hit_text, pulse_text, pulses_text, log_line}
-use Rattle.mpb_report.specs.StateLines.{imcr_text, imcr_line, life_text, further_vector, vectors_text}
-use Rattle.mpb_report.specs.Report.{title_line, end_line}
+use Rattle.mpb_report_spec.specs.Numbered.{numbered}
+use Rattle.mpb_report_spec.specs.EntryLines.{agent_text, op_text, trigger_text, what_text, has_target, outcome_text, further_outcome, entry_line}
+use Rattle.mpb_report_spec.specs.LogLines.{hit_text, pulse_text, pulses_text, log_line}
+use Rattle.mpb_report_spec.specs.StateLines.{imcr_text, imcr_line, life_text, further_vector, vectors_text}
+use Rattle.mpb_report_spec.specs.Report.{title_line, end_line}
 use Rattle.mpb_report_line.specs.declared.report.CpuLine.{CpuLine}
 use Rattle.mpb_report_line.specs.declared.report.IoLine.{IoLine}
 use Rattle.mpb_report_line.specs.declared.report.Report.{Report}

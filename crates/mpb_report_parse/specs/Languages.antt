@@ -5,10 +5,10 @@ use Rattle.mpb_spec.specs.declared.config.Imcr.{Imcr}
 use Rattle.mpb_spec.specs.declared.entry.Entry.{Entry}
 use Rattle.mpb_spec.specs.declared.pulse.Pulse.{Pulse}
 use Rattle.mpb_spec.specs.declared.pulse.Hit.{Hit}
-use Rattle.mpb_report.specs.EntryLines.{entry_line}
-use Rattle.mpb_report.specs.LogLines.{log_line}
-use Rattle.mpb_report.specs.StateLines.{imcr_line}
-use Rattle.mpb_report.specs.Report.{end_line}
+use Rattle.mpb_report_spec.specs.EntryLines.{entry_line}
+use Rattle.mpb_report_spec.specs.LogLines.{log_line}
+use Rattle.mpb_report_spec.specs.StateLines.{imcr_line}
+use Rattle.mpb_report_spec.specs.Report.{end_line}
 use Rattle.mpt_line.specs.Lines.{BeginsWithNone}
 use Rattle.mpb_report_line.specs.declared.report.CpuLine.{CpuLine}
 use Rattle.mpb_report_line.specs.declared.report.IoLine.{IoLine}

@@ -16,11 +16,11 @@ use Rattle.mpb_spec.specs.State.{Processor, Place}
 use Rattle.mpb_spec.specs.Journal.{final_state_of}
 use Rattle.mpb_spec.specs.declared.pulse.Pulse.{Pulse}
 use Rattle.mpb_spec.specs.declared.pulse.Hit.{Hit}
-use Rattle.mpb_report.specs.Numbered.{numbered}
-use Rattle.mpb_report.specs.EntryLines.{entry_line}
-use Rattle.mpb_report.specs.LogLines.{log_line}
-use Rattle.mpb_report.specs.StateLines.{members, imcr_line}
-use Rattle.mpb_report.specs.Report.{title_line, end_line}
+use Rattle.mpb_report_spec.specs.Numbered.{numbered}
+use Rattle.mpb_report_spec.specs.EntryLines.{entry_line}
+use Rattle.mpb_report_spec.specs.LogLines.{log_line}
+use Rattle.mpb_report_spec.specs.StateLines.{members, imcr_line}
+use Rattle.mpb_report_spec.specs.Report.{title_line, end_line}
 use Rattle.mpb_report_line.specs.declared.report.CpuLine.{CpuLine}
 use Rattle.mpb_report_line.specs.declared.report.IoLine.{IoLine}
 use Rattle.mpb_report_line.specs.declared.report.Report.{Report}

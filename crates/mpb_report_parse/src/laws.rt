@@ -6,7 +6,7 @@ ghost use Rattle.mpb_spec.specs.declared.entry.Entry.{Entry as EntryOf};
 ghost use Rattle.mpb_spec.specs.Plan.{Plan};
 ghost use Rattle.mpb_spec.specs.declared.pulse.Pulse.{Pulse as PulseOf};
 ghost use Rattle.mpb_spec.specs.declared.pulse.Hit.{Hit as HitOf};
-ghost use Rattle.mpb_report.specs.Report.{report_of};
+ghost use Rattle.mpb_report_spec.specs.Report.{report_of};
 ghost use Rattle.mpb_report_line.specs.declared.report.Report.{Report as ReportOf};
 ghost use Rattle.mpb_report_parse.specs.Reports.{IsReportOf, lines_of, shown_report};
 

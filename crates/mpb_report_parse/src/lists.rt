@@ -3,8 +3,8 @@
 ghost use Rattle.std.specs.Prelude.{◌≡◌, ◌<◌, ◌≤◌, ◌^◌, ◌++◌, [], length, IfOk};
 ghost use Rattle.std.specs.List.{AllByRecursion};
 ghost use Rattle.mpt_line.specs.Lines.{BeginsWithNone};
-ghost use Rattle.mpb_report.specs.EntryLines.{entry_line};
-ghost use Rattle.mpb_report.specs.LogLines.{log_line};
+ghost use Rattle.mpb_report_spec.specs.EntryLines.{entry_line};
+ghost use Rattle.mpb_report_spec.specs.LogLines.{log_line};
 ghost use Rattle.mpb_report_line.specs.Lines.{io_text};
 ghost use Rattle.mpb_report_line.specs.Values.{IsRightEntry};
 ghost use Rattle.mpb_report_parse.specs.Languages.{run_text, up, above, IsLogAt, IsCpuFrom, cpu_line_at, IsIoAt, AreFirstItems};

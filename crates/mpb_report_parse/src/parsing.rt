@@ -1,7 +1,7 @@
 //! The whole report, line by line.
 
 ghost use Rattle.std.specs.Prelude.{◌≡◌, ◌<◌, ◌≤◌, ◌+◌, ◌^◌, ℕ, min, length, IfSome, IfNone, IfOk, IfErr};
-ghost use Rattle.mpb_report.specs.Report.{end_line};
+ghost use Rattle.mpb_report_spec.specs.Report.{end_line};
 ghost use Rattle.mpb_report_line.specs.declared.report.Report.{Report as ReportOf};
 ghost use Rattle.mpt_parse.specs.declared.fault.LineWhy.{LineWhy as WhyOf};
 ghost use Rattle.mpt_parse.specs.Listings.{IsFirstBadLine};

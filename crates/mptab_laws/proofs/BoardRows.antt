@@ -26,7 +26,7 @@ use Rattle.mpb_spec.specs.declared.pulse.Pulse.{Pulse}
 use Rattle.mpb_spec.specs.declared.pulse.Hit.{Hit}
 use Rattle.mpb_robin.proofs.OneEnd.{some_end, same_end}
 use Rattle.mpb_robin.proofs.AtTheEnd.{is_complete, is_accounted}
-use Rattle.mpb_report.specs.Report.{report_of}
+use Rattle.mpb_report_spec.specs.Report.{report_of}
 use Rattle.mpb_report_laws.specs.Values.{HasOpValues}
 use Rattle.mpb_report_laws.proofs.BoardOps.{board_values}
 use Rattle.mpb_drill.specs.Drill.{drill_tables, drill_script}

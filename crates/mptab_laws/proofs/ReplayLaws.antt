@@ -16,7 +16,7 @@ use Rattle.mpb_script.specs.declared.script.Script.{Script as AScript}
 use Rattle.mpb_script.specs.Script.{IsScriptOf}
 use Rattle.mpb_robin.specs.Account.{AccountsForPulses}
 use Rattle.mpb_robin.proofs.AtTheEnd.{is_complete, is_accounted}
-use Rattle.mpb_report.specs.Report.{report_of}
+use Rattle.mpb_report_spec.specs.Report.{report_of}
 use Rattle.mpb_report_line.specs.declared.report.Report.{Report as AReport}
 use Rattle.mpb_report_parse.specs.Reports.{IsReportOf, shown_report}
 use Rattle.mpb_report_laws.specs.Values.{HasOpValues}

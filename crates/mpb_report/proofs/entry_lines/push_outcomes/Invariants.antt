@@ -1,6 +1,6 @@
 use Rattle.std.proofs.Common.{◌≡◌, ◌++◌, take}
 use Rattle.std.specs.List.{flat_map}
-use Rattle.mpb_report.specs.EntryLines.{further_outcome}
+use Rattle.mpb_report_spec.specs.EntryLines.{further_outcome}
 use Rattle.mpb_report.proofs.entry_lines.push_outcomes.Given as goal
 
 abbrev pub invariant-loop-outcome : goal.invariant-loop-outcome

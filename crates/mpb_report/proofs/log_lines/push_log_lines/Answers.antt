@@ -1,8 +1,8 @@
 use Rattle.std.proofs.Common.{◌≡◌, ◌++◌, take, ap, sym, ◌∙◌}
 use Rattle.std.proofs.lemmas.List.{take_all}
 use Rattle.std.specs.List.{concat}
-use Rattle.mpb_report.specs.Numbered.{numbered}
-use Rattle.mpb_report.specs.LogLines.{log_line}
+use Rattle.mpb_report_spec.specs.Numbered.{numbered}
+use Rattle.mpb_report_spec.specs.LogLines.{log_line}
 use Rattle.mpb_report.proofs.LineLemmas.{numbered_more, numbered_map}
 use Rattle.mpb_report.proofs.log_lines.push_log_lines.Goals as goal
 

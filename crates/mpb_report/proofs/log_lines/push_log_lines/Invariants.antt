@@ -1,7 +1,7 @@
 use Rattle.std.proofs.Common.{◌≡◌, ◌++◌, take}
 use Rattle.std.specs.List.{concat}
-use Rattle.mpb_report.specs.Numbered.{numbered}
-use Rattle.mpb_report.specs.LogLines.{log_line}
+use Rattle.mpb_report_spec.specs.Numbered.{numbered}
+use Rattle.mpb_report_spec.specs.LogLines.{log_line}
 use Rattle.mpb_report.proofs.log_lines.push_log_lines.Given as goal
 
 abbrev pub invariant-loop-number : goal.invariant-loop-number

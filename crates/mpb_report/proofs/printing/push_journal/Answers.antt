@@ -1,8 +1,8 @@
 use Rattle.std.proofs.Common.{length, ◌++◌}
 use Rattle.std.specs.List.{concat}
-use Rattle.mpb_report.specs.Numbered.{numbered}
-use Rattle.mpb_report.specs.EntryLines.{entry_line}
-use Rattle.mpb_report.specs.Report.{title_line, count_line}
+use Rattle.mpb_report_spec.specs.Numbered.{numbered}
+use Rattle.mpb_report_spec.specs.EntryLines.{entry_line}
+use Rattle.mpb_report_spec.specs.Report.{title_line, count_line}
 use Rattle.mpb_report.proofs.PartLemmas.{written_behind}
 use Rattle.mpb_report.proofs.printing.push_journal.Goals as goal
 

@@ -2,10 +2,10 @@ use Rattle.std.proofs.Common.{◌∷◌, [], ◌++◌, map, ap, ◌∙◌}
 use Rattle.std.specs.List.{concat}
 use Rattle.mpb_spec.specs.Pulses.{logs_of}
 use Rattle.mpb_board.specs.BoardView.{state_of}
-use Rattle.mpb_report.specs.Numbered.{numbered}
-use Rattle.mpb_report.specs.LogLines.{log_line}
-use Rattle.mpb_report.specs.StateLines.{state_lines}
-use Rattle.mpb_report.specs.Report.{journal_lines, end_line}
+use Rattle.mpb_report_spec.specs.Numbered.{numbered}
+use Rattle.mpb_report_spec.specs.LogLines.{log_line}
+use Rattle.mpb_report_spec.specs.StateLines.{state_lines}
+use Rattle.mpb_report_spec.specs.Report.{journal_lines, end_line}
 use Rattle.mpb_report.proofs.PartLemmas.{lines_behind}
 use Rattle.mpb_report.proofs.printing.push_report.Goals as goal
 

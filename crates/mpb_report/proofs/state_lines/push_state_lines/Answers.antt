@@ -1,8 +1,8 @@
 use Rattle.std.proofs.Common.{map, ◌++◌, ap, ◌∙◌}
 use Rattle.std.specs.List.{concat}
 use Rattle.mpb_board.specs.BoardView.{state_of}
-use Rattle.mpb_report.specs.Numbered.{numbered}
-use Rattle.mpb_report.specs.StateLines.{imcr_line, processor_line, place_line}
+use Rattle.mpb_report_spec.specs.Numbered.{numbered}
+use Rattle.mpb_report_spec.specs.StateLines.{imcr_line, processor_line, place_line}
 use Rattle.mpb_report.proofs.PartLemmas.{written_behind, lines_behind}
 use Rattle.mpb_report.proofs.state_lines.push_state_lines.Goals as goal
 

@@ -1,5 +1,5 @@
 use Rattle.std.proofs.Common.{◌≡◌, ◌≤◌, length}
-use Rattle.mpb_report.specs.StateLines.{members_below}
+use Rattle.mpb_report_spec.specs.StateLines.{members_below}
 use Rattle.mpb_report.specs.Found.{register_of}
 use Rattle.mpb_report.proofs.vectors.members.Given as goal
 

@@ -1,6 +1,6 @@
 use Rattle.std.proofs.Common.{◌≡◌, ◌≤◌, ◌++◌, length}
 use Rattle.std.specs.List.{AllByRecursion}
-use Rattle.mpb_report.specs.EntryLines.{entry_line}
+use Rattle.mpb_report_spec.specs.EntryLines.{entry_line}
 use Rattle.mpb_report_line.specs.Values.{IsRightEntry}
 use Rattle.mpb_report_parse.specs.Languages.{run_text, up}
 use Rattle.mpb_report_parse.proofs.lists.read_entries.Given as goal

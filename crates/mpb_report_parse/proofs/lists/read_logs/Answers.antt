@@ -1,6 +1,6 @@
 use Rattle.std.proofs.Common.{◌<◌, ◌≤◌, arith}
 use Rattle.mpt_line.specs.Lines.{BeginsWith, BeginsWithNone}
-use Rattle.mpb_report.specs.LogLines.{log_line}
+use Rattle.mpb_report_spec.specs.LogLines.{log_line}
 use Rattle.mpb_report_line.specs.Values.{IsRightLog}
 use Rattle.mpb_report_parse.specs.Languages.{IsLogAt}
 use Rattle.mpb_report_parse.proofs.ListLemmas.{up_more, up_first, below_four, none_below_four, none_at_four}

@@ -1,5 +1,5 @@
 use Rattle.std.proofs.Common.{◌≡◌, ◌++◌, length}
-use Rattle.mpb_report.specs.LogLines.{log_line}
+use Rattle.mpb_report_spec.specs.LogLines.{log_line}
 use Rattle.mpb_report_parse.specs.Languages.{run_text, AreRightFrom, up, IsLogAt}
 use Rattle.mpb_report_parse.proofs.lists.read_logs.Given as goal
 

@@ -1,5 +1,5 @@
 use Rattle.std.proofs.Common.{◌≡◌, ◌+◌, ◌^◌, ◌<◌, ◌≤◌, ℕ, length, subst, arith}
-use Rattle.mpb_report.specs.EntryLines.{entry_line}
+use Rattle.mpb_report_spec.specs.EntryLines.{entry_line}
 use Rattle.mpb_report_parse.specs.Languages.{up, AreLogLines, IsFaultBehind, IsUnfinished}
 use Rattle.mpb_report_parse.proofs.Runs.{items_short}
 use Rattle.mpb_report_parse.proofs.Places.{entry_line_some, entries_first, entries_stop, entries_fault}

@@ -1,5 +1,5 @@
 use Rattle.std.proofs.Common.{◌≡◌, ◌+◌, ℕ, length, subst, arith}
-use Rattle.mpb_report.specs.LogLines.{log_line}
+use Rattle.mpb_report_spec.specs.LogLines.{log_line}
 use Rattle.mpb_report_line.specs.Lines.{io_text}
 use Rattle.mpb_report_parse.specs.Languages.{run_end, up, above, IsLogAt, IsCpuFrom, cpu_line_at, IsIoAt, IsEnd, IsFaultBehind, IsUnfinished}
 use Rattle.mpb_report_parse.proofs.Places.{log_line_some, cpu_line_some, io_line_some, imcr_stop, tail_fault, tail_whole}

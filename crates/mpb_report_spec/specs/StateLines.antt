@@ -16,7 +16,7 @@ use Rattle.mpb_spec.specs.declared.apic.Pin.{Pin}
 use Rattle.mpb_spec.specs.LocalApic.{LocalApic}
 use Rattle.mpb_spec.specs.IoApic.{mask_by}
 use Rattle.mpb_spec.specs.State.{Processor, Place, BoardState}
-use Rattle.mpb_report.specs.Numbered.{numbered}
+use Rattle.mpb_report_spec.specs.Numbered.{numbered}
 
 -- the interrupt mode register
 abbrev pub imcr_text : Imcr → List ℕ
