@@ -1,15 +1,12 @@
 -- Bytes that are a table are those that are written for it.
-use Rattle.std.proofs.Common.{◌≡◌, ℕ, suc, ◌+◌, ◌-◌, ◌%◌, ◌<◌, ◌≤◌, List, [], ◌∷◌, ◌++◌, length, take, drop, sum, sym, refl, ap, ◌∙◌, subst, arith, add-zero}
+use Rattle.std.proofs.Common.{◌≡◌, ℕ, ◌+◌, ◌≤◌, List, [], ◌∷◌, ◌++◌, length, sum, sym, refl, ap, ◌∙◌, subst, arith}
 use Rattle.std.specs.Prelude.{slice_index, codes}
-use Rattle.std.specs.Int.{to_le_bytes, from_le_bytes, w16, w32}
+use Rattle.std.specs.Int.{to_le_bytes, w16, w32}
 use Rattle.std.specs.List.{flat_map}
-use Rattle.std.proofs.Math.Seq.{drop-cons, take-add}
-use Rattle.std.proofs.lemmas.List.{length-append, drop-drop}
-use Rattle.std.proofs.lemmas.Nat.{le_bytes_2, le_bytes_4}
-use Rattle.mpt_base.specs.Bytes.{part, number_at, SumsToZero, IsByteList}
+use Rattle.std.proofs.lemmas.List.{length-append}
+use Rattle.mpt_base.specs.Bytes.{part, SumsToZero, IsByteList}
 use Rattle.mpt_base.specs.Writing.{checksum_of}
-use Rattle.mpt_spec.proofs.ByteLemmas.{take_whole, two_bytes, four_bytes}
-use Rattle.mpt_spec.proofs.CallerLemmas.{number_at-part}
+use Rattle.mpt_spec.proofs.ByteLemmas.{take_whole}
 use Rattle.mpt_spec.proofs.SpellingLemmas.{length-part, IsSpelledAt, unsealed, spelled-part, spelled-append, spelled-byte, spelled-cons, spelled-2, spelled-4}
 use Rattle.mpf_madt.specs.declared.madt.Madt.{Madt}
 use Rattle.mpf_madt.specs.declared.madt.MadtEntry.{MadtEntry}

@@ -1,6 +1,6 @@
 -- The entries of the table of a platform, one more at a time, and how many there are.
 use Rattle.std.proofs.Common.{◌≡◌, ℕ, suc, ◌+◌, ◌*◌, ◌%◌, ◌<◌, Bool, true, false, cond, List, [], ◌∷◌, ◌++◌, length, take, get_or, map, refl, sym, ap, ◌∙◌, arith, append-nil}
-use Rattle.std.specs.Prelude.{Option, Some, None, filter, filter_map, option_to_list, ◌==◌}
+use Rattle.std.specs.Prelude.{Option, Some, None, filter, filter_map, option_to_list}
 use Rattle.std.specs.List.{enumerate_from, cons_option, range_with_len}
 use Rattle.std.proofs.lemmas.List.{take_more, length-take}
 use Rattle.std.proofs.lemmas.List.Elements.{filter_map-append, filter-append}

@@ -1,7 +1,7 @@
 -- The MADT that says what a platform and its routes say (MultiProcessor Specification 1.4, section 4.3; ACPI Specification,
 -- section 5.2.12). The names in its header are this project's own.
 --     madt_of p answers     the table
-use Rattle.std.specs.Prelude.{ℕ, ◌==◌, ◌&&◌, not, ◌+◌, ◌*◌, ◌%◌, ◌<◌, Bool, if◌then◌else◌, List, ◌++◌, length, map, filter, filter_map, position, codes, Option, Some, None, option_map}
+use Rattle.std.specs.Prelude.{ℕ, ◌==◌, ◌&&◌, not, ◌+◌, ◌*◌, ◌%◌, Bool, if◌then◌else◌, List, ◌++◌, map, filter, filter_map, position, codes, Option, Some, None, option_map}
 use Rattle.std.specs.List.{enumerate_from, range_with_len}
 use Rattle.mpt_spec.specs.declared.entry.Processor.{Processor}
 use Rattle.mpt_spec.specs.declared.entry.IoApic.{IoApic}

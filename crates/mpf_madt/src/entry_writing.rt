@@ -1,7 +1,6 @@
 //! The bytes of the entries of a MADT (ACPI Specification, section 5.2.12).
 
-ghost use Rattle.std.specs.Prelude.{◌≡◌, ◌+◌, ◌++◌, length, OnOk, OnErr};
-ghost use Rattle.mpf_madt.specs.Entries.{entry_length};
+ghost use Rattle.std.specs.Prelude.{◌≡◌, ◌++◌, OnOk};
 ghost use Rattle.mpf_madt.specs.Lawful.{IsLawfulEntry};
 ghost use Rattle.mpf_madt.specs.Spelling.{entry_bytes};
 ghost use Rattle.mpf_madt.specs.declared.madt.MadtEntry.TheVariants as entry;
@@ -14,50 +13,62 @@ use crate::madt::MadtEntry;
 use mpt_base::{NoMemory, append};
 use mpt_spec::Opaque;
 
-fn local_bytes(uid: u8, apic: u8, flags: u32) -> [u8; 8]
-    ensures { result ≡ entry_bytes (entry.Local uid apic flags) }
+fn write_local(out: &mut Vec<u8>, uid: u8, apic: u8, flags: u32) -> Result<(), NoMemory>
+    ensures { OnOk result (out.new.items ≡ out.old.items ++ entry_bytes (entry.Local uid apic flags)) }
 {
     let mut bytes = [0; 8];
     bytes[0] = LOCAL;
     bytes[1] = LOCAL_LENGTH;
     local_layout!(put_entry, bytes; uid, apic, flags);
-    bytes
+    append(out, &bytes)
 }
 
-fn io_bytes(id: u8, reserved: u8, address: u32, base: u32) -> [u8; 12]
-    ensures { result ≡ entry_bytes (entry.Io id reserved address base) }
+fn write_io(
+    out: &mut Vec<u8>,
+    id: u8,
+    reserved: u8,
+    address: u32,
+    base: u32,
+) -> Result<(), NoMemory>
+    ensures { OnOk result (out.new.items ≡ out.old.items ++ entry_bytes (entry.Io id reserved address base)) }
 {
     let mut bytes = [0; 12];
     bytes[0] = IO;
     bytes[1] = IO_LENGTH;
     io_layout!(put_entry, bytes; id, reserved, address, base);
-    bytes
+    append(out, &bytes)
 }
 
-fn override_bytes(bus: u8, source: u8, gsi: u32, flags: u16) -> [u8; 10]
-    ensures { result ≡ entry_bytes (entry.Override bus source gsi flags) }
+fn write_override(
+    out: &mut Vec<u8>,
+    bus: u8,
+    source: u8,
+    gsi: u32,
+    flags: u16,
+) -> Result<(), NoMemory>
+    ensures { OnOk result (out.new.items ≡ out.old.items ++ entry_bytes (entry.Override bus source gsi flags)) }
 {
     let mut bytes = [0; 10];
     bytes[0] = OVERRIDE;
     bytes[1] = OVERRIDE_LENGTH;
     override_layout!(put_entry, bytes; bus, source, gsi, flags);
-    bytes
+    append(out, &bytes)
 }
 
-fn nmi_bytes(uid: u8, flags: u16, lint: u8) -> [u8; 6]
-    ensures { result ≡ entry_bytes (entry.Nmi uid flags lint) }
+fn write_nmi(out: &mut Vec<u8>, uid: u8, flags: u16, lint: u8) -> Result<(), NoMemory>
+    ensures { OnOk result (out.new.items ≡ out.old.items ++ entry_bytes (entry.Nmi uid flags lint)) }
 {
     let mut bytes = [0; 6];
     bytes[0] = NMI;
     bytes[1] = NMI_LENGTH;
     nmi_layout!(put_entry, bytes; uid, flags, lint);
-    bytes
+    append(out, &bytes)
 }
 
 // the head of an entry of another type, then its rest
 fn write_other(out: &mut Vec<u8>, other: &Opaque) -> Result<(), NoMemory>
     requires lawful { IsLawfulEntry (entry.Other other.now) }
-    ensures ok { OnOk result (out.new.items ≡ out.old.items ++ entry_bytes (entry.Other other.now)) }
+    ensures { OnOk result (out.new.items ≡ out.old.items ++ entry_bytes (entry.Other other.now)) }
 {
     let rest = other.rest.as_slice();
     append(out, &[other.kind, 2 + rest.len() as u8])?;
@@ -68,24 +79,23 @@ fn write_other(out: &mut Vec<u8>, other: &Opaque) -> Result<(), NoMemory>
 /// Appends the bytes of an entry. After want of memory a part of them may stand behind what was there.
 pub(crate) fn write_entry(out: &mut Vec<u8>, entry: &MadtEntry) -> Result<(), NoMemory>
     requires lawful { IsLawfulEntry entry.now }
-    ensures ok { OnOk result (out.new.items ≡ out.old.items ++ entry_bytes entry.now) }
-    ensures size { OnOk result (length out.new.items ≡ length out.old.items + entry_length entry.now) }
+    ensures { OnOk result (out.new.items ≡ out.old.items ++ entry_bytes entry.now) }
 {
     match entry {
-        MadtEntry::Local { uid, apic, flags } => append(out, &local_bytes(*uid, *apic, *flags)),
+        MadtEntry::Local { uid, apic, flags } => write_local(out, *uid, *apic, *flags),
         MadtEntry::Io {
             id,
             reserved,
             address,
             base,
-        } => append(out, &io_bytes(*id, *reserved, *address, *base)),
+        } => write_io(out, *id, *reserved, *address, *base),
         MadtEntry::Override {
             bus,
             source,
             gsi,
             flags,
-        } => append(out, &override_bytes(*bus, *source, *gsi, *flags)),
-        MadtEntry::Nmi { uid, flags, lint } => append(out, &nmi_bytes(*uid, *flags, *lint)),
+        } => write_override(out, *bus, *source, *gsi, *flags),
+        MadtEntry::Nmi { uid, flags, lint } => write_nmi(out, *uid, *flags, *lint),
         MadtEntry::Other(other) => write_other(out, other),
     }
 }

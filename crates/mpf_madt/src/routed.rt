@@ -1,10 +1,10 @@
 //! The lines of the ISA interrupts by the routes of a platform (MultiProcessor Specification 1.4,
 //! sections 4.3.2 and 4.3.4), and where a MADT says others.
 
-ghost use Rattle.std.specs.Prelude.{◌≡◌, ◌==◌, ◌<◌, ◌/◌, ◌%◌, ◌^◌, ◌↔◌, ℕ, Some, find, IsTrue};
+ghost use Rattle.std.specs.Prelude.{◌≡◌, ◌==◌, ◌<◌, ◌/◌, ◌%◌, ◌^◌, ◌↔◌, ℕ, Some, find, slice_get, IsTrue};
 ghost use Rattle.mpt_route.specs.Routes.{bus_kind_in};
 ghost use Rattle.mpt_route.specs.Sense.{bus_kind_of};
-ghost use Rattle.mpf_madt.specs.Lines.{first_some, is_isa, is_isa_int, line_of, source_by, source_of, Differs};
+ghost use Rattle.mpf_madt.specs.Lines.{first_some, is_isa, is_isa_int, line_for, line_of, source_by, source_of, Differs};
 
 use crate::line::{Line, PINS, isa};
 use crate::madt::Madt;
@@ -53,15 +53,29 @@ fn line_of(row: Route) -> Line
     }
 }
 
+// the line of a row, where its entry is there and one of an ISA interrupt
+fn line_for(p: &Platform, irq: u8, entry: Option<IntEntry>, row: Route) -> Option<Line>
+    ensures { result ≡ line_for p.now irq entry row }
+{
+    match entry {
+        Some(e) if is_isa_int(p, irq, e) => Some(line_of(row)),
+        _ => None,
+    }
+}
+
+// the interrupt entry with a number
+fn entry_at(p: &Platform, number: u32) -> Option<IntEntry>
+    ensures { result ≡ slice_get p.now.ints number }
+{
+    p.ints.as_slice().get(number as usize).copied()
+}
+
 // the line of an answer, where it is a row of an ISA interrupt
 fn source_by(p: &Platform, irq: u8, answer: Answer) -> Option<Line>
     ensures { result ≡ source_by p.now irq answer }
 {
     match answer {
-        Answer::Routed(row) => match p.ints.as_slice().get(row.entry as usize) {
-            Some(e) if is_isa_int(p, irq, *e) => Some(line_of(row)),
-            _ => None,
-        },
+        Answer::Routed(row) => line_for(p, irq, entry_at(p, row.entry), row),
         Answer::Unrouted { .. } => None,
     }
 }

@@ -21,8 +21,7 @@ use std::alloc::Global;
 // the bytes of entries, end to end, behind what is there
 fn push_entries(out: &mut Vec<u8>, entries: &[MadtEntry]) -> Result<(), NoMemory>
     requires lawful { AllByRecursion IsLawfulEntry entries.now }
-    ensures bytes { OnOk result (out.new.items ≡ out.old.items ++ flat_map entry_bytes entries.now) }
-    ensures size { OnOk result (length out.new.items ≡ length out.old.items + sum_by entry_length entries.now) }
+    ensures { OnOk result (out.new.items ≡ out.old.items ++ flat_map entry_bytes entries.now) }
 {
     for entry in entries {
         write_entry(out, entry)?;

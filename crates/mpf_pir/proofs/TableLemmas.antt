@@ -1,20 +1,13 @@
 -- Tables by number, one entry of a list more at a time.
-use Rattle.std.proofs.Common.{◌≡◌, ℕ, ◌+◌, ◌<◌, Bool, true, false, cond, ◌&&◌, List, [], ◌∷◌, ◌++◌, length, take, get_or, set, replicate, sym, refl, ap, ◌∙◌, arith, append-nil}
-use Rattle.std.specs.Prelude.{Option, Some, None, ◌==◌, if◌then◌else◌, find, option_map, filter, codes}
+use Rattle.std.proofs.Common.{◌≡◌, ℕ, ◌+◌, ◌<◌, Bool, true, false, cond, List, [], ◌∷◌, ◌++◌, length, take, get_or, set, replicate, sym, refl, ap, ◌∙◌, arith, append-nil}
+use Rattle.std.specs.Prelude.{Option, Some, None, ◌==◌, if◌then◌else◌, find, option_map, filter}
 use Rattle.std.specs.Option.{option_or}
 use Rattle.std.proofs.lemmas.List.{take_more, get_or-replicate}
-use Rattle.std.proofs.lemmas.Bool.Decides.{nat_tests}
 use Rattle.std.proofs.Math.ListN.{length-set, length-replicate}
 use Rattle.std.proofs.lemmas.List.Elements.{filter-append}
 use Rattle.std.proofs.lemmas.List.Folds.{find-append}
-use Rattle.mpt_spec.specs.declared.entry.Bus.{Bus}
-use Rattle.mpt_spec.specs.declared.entry.IntEntry.{IntEntry}
-use Rattle.mpt_route.specs.declared.bus.BusKind.TheVariants as bus
-use Rattle.mpt_route.specs.declared.platform.Platform.{Platform}
 use Rattle.mpt_route.specs.Index.{IsTableOf}
-use Rattle.mpt_route.specs.Sense.{is_named, bus_kind_of}
 use Rattle.mpt_route.proofs.ListLemmas.{set_first, keep_first}
-use Rattle.mpf_pir.specs.Pins.{is_pci, is_on_pci}
 
 module _ {X Y : Type 0} (key : X → ℕ) (g : X → Y) where
   -- what the first member with a number gives

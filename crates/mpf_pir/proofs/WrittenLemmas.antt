@@ -1,12 +1,38 @@
 -- The written bytes are the table.
-use Rattle.std.proofs.Common.{◌≡◌, ◌≢◌, ℕ, ◌+◌, ◌*◌, ◌^◌, ◌<◌, ◌≤◌, List, [], ◌∷◌, ◌++◌, length, take, drop, set, get_or, sym, ap, ◌∙◌, subst, arith, length-append, length-set}
+use Rattle.std.proofs.Common.{refl, ◌≡◌, ◌≢◌, ℕ, ◌+◌, ◌*◌, ◌^◌, ◌<◌, ◌≤◌, List, [], ◌∷◌, ◌++◌, length, take, drop, set, get_or, sym, ap, ◌∙◌, subst, arith, length-append, length-set}
 use Rattle.std.specs.Prelude.{slice_index}
 use Rattle.std.proofs.lemmas.List.{take-append-le, take_all, get_or-set_other}
-use Rattle.mpt_base.specs.Bytes.{SumsToZero}
+use Rattle.std.specs.Int.{to_le_bytes, w16}
+use Rattle.mpt_base.specs.Bytes.{SumsToZero, number_at}
+use Rattle.mpt_spec.proofs.ByteLemmas.{number_at-to_le_bytes_2}
 use Rattle.mpf_pir.specs.declared.table.Pir.{Pir}
-use Rattle.mpf_pir.specs.Layout.{AreSlots, IsHeader, IsPir}
-use Rattle.mpf_pir.specs.Spelling.{IsHeaderValue, IsOpenPir, header_bytes}
+use Rattle.mpf_pir.specs.declared.table.Slot.{Slot}
+use Rattle.mpf_pir.specs.Layout.{IsSlotAt, AreSlots, IsHeader, IsPir}
+use Rattle.mpf_pir.specs.Spelling.{IsHeaderValue, IsSlotValue, IsOpenPir, header_bytes, slot_bytes}
 use Rattle.mpf_pir.proofs.LayoutLemmas.{Agree, AreSlots-size, AreSlots-agree, IsHeader-agree, before-agree, behind-agree, header-written}
+
+-- a list of four by its members
+four : (xs : List ℕ) → length xs ≡ 4 → xs ≡ slice_index xs 0 ∷ slice_index xs 1 ∷ slice_index xs 2 ∷ slice_index xs 3 ∷ []
+four [] h = absurd (omega arith)
+four (a ∷ []) h = absurd (omega arith)
+four (a ∷ b ∷ []) h = absurd (omega arith)
+four (a ∷ b ∷ c ∷ []) h = absurd (omega arith)
+four (a ∷ b ∷ c ∷ d ∷ []) h = refl
+four (a ∷ b ∷ c ∷ d ∷ e ∷ xs) h = absurd (omega arith)
+
+-- the written slot is the slot
+pub slot-written : (s : Slot) → IsSlotValue s → IsSlotAt s (slot_bytes s) 0
+slot-written s v =
+    let two : (pin : ℕ) → slice_index s.irqs pin ≡ number_at 2 (to_le_bytes w16 (slice_index s.irqs pin)) 0 =
+    λ pin. sym (number_at-to_le_bytes_2 (slice_index s.irqs pin) (v.small pin)) in
+    record {
+      bus = refl;
+      device = refl;
+      links = four s.links v.links;
+      irqs = four s.irqs v.irqs ∙ (λ i. two 0 i ∷ two 1 i ∷ two 2 i ∷ two 3 i ∷ []);
+      number = refl;
+      reserved = refl;
+    }
 
 -- the header, a place for the checksum, and the slots
 pub opened : (t : Pir) (total : ℕ) (body : List ℕ) → length t.slots ≤ 4093 → total ≡ 32 + 16 * length t.slots → IsHeaderValue t → length body ≡ 16 * length t.slots → AreSlots t.slots body 0 (length body)

@@ -5,10 +5,12 @@ ghost use Rattle.mpt_route.specs.Index.{IsTableOf};
 ghost use Rattle.mpf_pir.specs.declared.pins.By.TheVariants as by;
 ghost use Rattle.mpf_pir.specs.declared.comparing.Seen.TheVariants as seen;
 ghost use Rattle.mpf_pir.specs.Differences.{AreDifferencesOf, connected};
+ghost use Rattle.mpf_pir.specs.Index.{IsPlaceTable};
+ghost use Rattle.mpf_pir.specs.Made.{pin_entries};
 ghost use Rattle.mpf_pir.specs.Pins.{is_wire};
 ghost use Rattle.mpf_pir.specs.Progress.{slot_number, links_of, pin_at, difference_at, is_other, with_wire, odd_of, seen_after, seen_at};
 
-use crate::pins::{By, Pin, Wire, firsts_by, pci_ints, wire_at};
+use crate::pins::{By, Firsts, Pin, Wire, firsts_by, pci_ints, wire_at};
 use crate::table::{Pir, Slot};
 use mpt_base::NoMemory;
 use mpt_route::Platform;
@@ -200,22 +202,47 @@ fn difference_at(number: usize, why: Odd) -> Difference
     }
 }
 
-fn differences(alloc: Global, p: &Platform, t: &Pir) -> Result<Vec<Difference>, AllocError>
-    ensures { IfOk result (λ found. AreDifferencesOf p.now t.now found.items) }
+// the first entry of each pin
+fn pins_of(alloc: Global, p: &Platform) -> Result<Firsts, AllocError>
+    ensures pins { IfOk result (λ pins. pins.entries.items ≡ pin_entries p.now) }
+    ensures table { IfOk result (λ pins. IsPlaceTable by.Pin pins.entries.items pins.places.items) }
 {
     let ints = pci_ints(alloc, p)?;
     let pins = firsts_by(alloc, ints.as_slice(), By::Pin)?;
-    let slots = first_slots(alloc, t.slots.as_slice())?;
+    Ok(pins)
+}
+
+// the differences, by the first entry of each pin and the links of each device
+fn differences_by(
+    alloc: Global,
+    p: &Platform,
+    t: &Pir,
+    pins: &Firsts,
+    slots: &[Option<[u8; 4]>],
+) -> Result<Vec<Difference>, AllocError>
+    requires pins { pins.now.entries.items ≡ pin_entries p.now }
+    requires table { IsPlaceTable by.Pin pins.now.entries.items pins.now.places.items }
+    requires slots { IsTableOf 8192 slots.now (links_of t.now.slots) }
+    ensures { IfOk result (λ found. AreDifferencesOf p.now t.now found.items) }
+{
     let mut seen = nothing_seen();
     let mut found = Vec::new(alloc);
     for number in 0..32_768usize {
-        let wire = wire_at(&pins, number);
-        let link = link_at(slots.as_slice(), number);
+        let wire = wire_at(pins, number);
+        let link = link_at(slots, number);
         if let Some(why) = odd_of(&mut seen, link, wire) {
             found.push(difference_at(number, why))?;
         }
     }
     Ok(found)
+}
+
+fn differences(alloc: Global, p: &Platform, t: &Pir) -> Result<Vec<Difference>, AllocError>
+    ensures { IfOk result (λ found. AreDifferencesOf p.now t.now found.items) }
+{
+    let pins = pins_of(alloc, p)?;
+    let slots = first_slots(alloc, t.slots.as_slice())?;
+    differences_by(alloc, p, t, &pins, slots.as_slice())
 }
 
 /// Where the table and the platform differ: each odd pin once, by bus, device and pin.

@@ -7,8 +7,9 @@ ghost use Rattle.mpf_pir.specs.declared.making.MakeFault.{MakeFault};
 ghost use Rattle.mpf_pir.specs.declared.making.MakeFault.TheVariants as fault;
 ghost use Rattle.mpf_pir.specs.declared.pins.By.TheVariants as by;
 ghost use Rattle.mpf_pir.specs.Answers.{IfMakeFault, AnswersMakeFault};
-ghost use Rattle.mpf_pir.specs.Index.{IsPlaceTable, IsWiringOf, HasBytePin, slot_with};
-ghost use Rattle.mpf_pir.specs.Made.{IsMakeFault, link_among, pir_of};
+ghost use Rattle.mpf_pir.specs.Index.{IsPlaceTable, IsWiringOf, HasBytePin, is_same_by, slot_with};
+ghost use Rattle.mpf_pir.specs.Pins.{pci_ints};
+ghost use Rattle.mpf_pir.specs.Made.{IsMakeFault, firsts, link_among, pir_of};
 
 use crate::pins::{By, Firsts, Wire, firsts_by, number, pci_ints, wire_at};
 use crate::table::{Pir, Slot};
@@ -58,18 +59,37 @@ pub struct Wiring {
     pub devices: Vec<IntEntry>,
 }
 
+// the first entry of each device
+fn devices_of(alloc: Global, ints: &[IntEntry]) -> Result<Vec<IntEntry>, AllocError>
+    ensures devices { IfOk result (λ devices. devices.items ≡ firsts (is_same_by by.Device) ints.now) }
+    ensures few { IfOk result (λ devices. length devices.items ≤ length ints.now) }
+{
+    let devices = firsts_by(alloc, ints, By::Device)?;
+    Ok(devices.entries)
+}
+
+// the wiring by the INT entries whose bus is PCI
+fn wiring_by(alloc: Global, p: &Platform, ints: &[IntEntry]) -> Result<Wiring, AllocError>
+    requires ints { ints.now ≡ pci_ints p.now }
+    requires few { length ints.now ≤ length p.now.ints }
+    requires bytes { AllByRecursion HasBytePin ints.now }
+    ensures { IfOk result (IsWiringOf p.now) }
+{
+    let devices = devices_of(alloc, ints)?;
+    let pins = firsts_by(alloc, ints, By::Pin)?;
+    let wires = firsts_by(alloc, pins.entries.as_slice(), By::Wire)?;
+    Ok(Wiring {
+        pins,
+        wires,
+        devices,
+    })
+}
+
 fn wiring_of(alloc: Global, p: &Platform) -> Result<Wiring, AllocError>
     ensures { IfOk result (IsWiringOf p.now) }
 {
     let ints = pci_ints(alloc, p)?;
-    let pins = firsts_by(alloc, ints.as_slice(), By::Pin)?;
-    let wires = firsts_by(alloc, pins.entries.as_slice(), By::Wire)?;
-    let devices = firsts_by(alloc, ints.as_slice(), By::Device)?;
-    Ok(Wiring {
-        pins,
-        wires,
-        devices: devices.entries,
-    })
+    wiring_by(alloc, p, ints.as_slice())
 }
 
 // the link of a wire: 1 plus its place, and 0 where there is no wire
@@ -131,18 +151,15 @@ fn slots_of(
     Ok(slots)
 }
 
-/// The table with a slot for each device, in the order of first appearance, in which pins have one link
-/// where their entries have one wire; all else is 0. Of more than one entry of a pin the first decides.
-/// It fails where there are too many devices, else where there are too many wires, each with the whole
-/// number, and where memory runs out.
-pub fn make(alloc: Global, p: &Platform) -> Result<Pir, MakeFault>
+// the table by the wiring
+fn pir_by(alloc: Global, p: &Platform, wiring: &Wiring) -> Result<Pir, MakeFault>
     requires few { length p.now.ints < 2 ^ 32 }
+    requires wiring { IsWiringOf p.now wiring.now }
     ensures table { IfOk result (λ t. t ≡ pir_of p.now) }
     ensures slots { IfOk result (λ t. length t.slots ≤ 4093) }
     ensures fault { IfMakeFault result (IsMakeFault p.now) }
     ensures only_fault { (f : MakeFault) → IsMakeFault p.now f → AnswersMakeFault result f }
 {
-    let wiring = wiring_of(alloc, p)?;
     let slots = wiring.devices.len();
     if slots > MOST_SLOTS {
         return Err(MakeFault::ManySlots { n: slots as u32 });
@@ -166,4 +183,19 @@ pub fn make(alloc: Global, p: &Platform) -> Result<Pir, MakeFault>
         reserved: [0; 11],
         slots: Sequence::new(slots),
     })
+}
+
+/// The table with a slot for each device, in the order of first appearance, in which pins have one link
+/// where their entries have one wire; all else is 0. Of more than one entry of a pin the first decides.
+/// It fails where there are too many devices, else where there are too many wires, each with the whole
+/// number, and where memory runs out.
+pub fn make(alloc: Global, p: &Platform) -> Result<Pir, MakeFault>
+    requires few { length p.now.ints < 2 ^ 32 }
+    ensures table { IfOk result (λ t. t ≡ pir_of p.now) }
+    ensures slots { IfOk result (λ t. length t.slots ≤ 4093) }
+    ensures fault { IfMakeFault result (IsMakeFault p.now) }
+    ensures only_fault { (f : MakeFault) → IsMakeFault p.now f → AnswersMakeFault result f }
+{
+    let wiring = wiring_of(alloc, p)?;
+    pir_by(alloc, p, &wiring)
 }

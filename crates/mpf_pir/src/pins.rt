@@ -3,6 +3,8 @@
 //! ids.
 
 ghost use Rattle.std.specs.Prelude.{◌≡◌, ◌≤◌, ◌<◌, length, IfOk, None, replicate, slice_index_or};
+ghost use Rattle.mpt_route.specs.Routes.{bus_kind_in};
+ghost use Rattle.mpt_route.specs.Index.{IsTableOf};
 ghost use Rattle.mpf_pir.specs.Pins.{wire_of, pci_ints};
 ghost use Rattle.mpf_pir.specs.Index.{number_by, count_by, AreFirsts, IsPlaceTable, wire_by, is_int_on, HasBytePin};
 ghost use Rattle.std.specs.List.{AllByRecursion};
@@ -71,9 +73,23 @@ pub fn pci_ints(alloc: Global, p: &Platform) -> Result<Vec<IntEntry>, AllocError
     ensures bytes { IfOk result (λ ints. AllByRecursion HasBytePin ints.items) }
 {
     let buses = first_buses(alloc, p.buses.as_slice())?;
+    pci_ints_by(alloc, p, buses.as_slice())
+}
+
+// these entries, by the table of the types of buses
+fn pci_ints_by(
+    alloc: Global,
+    p: &Platform,
+    buses: &[Option<BusKind>],
+) -> Result<Vec<IntEntry>, AllocError>
+    requires { IsTableOf 256 buses.now (bus_kind_in p.now.buses) }
+    ensures ints { IfOk result (λ ints. ints.items ≡ pci_ints p.now) }
+    ensures few { IfOk result (λ ints. length ints.items ≤ length p.now.ints) }
+    ensures bytes { IfOk result (λ ints. AllByRecursion HasBytePin ints.items) }
+{
     let mut ints = Vec::new(alloc);
     for e in p.ints.as_slice() {
-        if is_int_on(&buses, *e) {
+        if is_int_on(buses, *e) {
             ints.push(*e)?;
         }
     }

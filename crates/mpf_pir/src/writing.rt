@@ -1,9 +1,9 @@
 //! The writing of a table (PCI IRQ Routing Table Specification 1.0).
 
-ghost use Rattle.std.specs.Prelude.{◌≡◌, ◌+◌, ◌*◌, ◌^◌, ◌<◌, ◌≤◌, ◌++◌, ◌∷◌, [], ℕ, List, length, IfOk};
+ghost use Rattle.std.specs.Prelude.{◌≡◌, ◌+◌, ◌*◌, ◌^◌, ◌<◌, ◌≤◌, ◌++◌, ◌∷◌, [], ℕ, List, length, IfOk, OnOk, slice_index};
 ghost use Rattle.mpt_base.specs.Bytes.{IsByteList};
-ghost use Rattle.mpf_pir.specs.Layout.{IsSlotAt, AreSlots, IsPir};
-ghost use Rattle.mpf_pir.specs.Spelling.{IsHeaderValue, IsOpenPir, header_bytes};
+ghost use Rattle.mpf_pir.specs.Layout.{AreSlots, IsPir};
+ghost use Rattle.mpf_pir.specs.Spelling.{IsHeaderValue, IsOpenPir, IsSlotValue, header_bytes, slot_bytes};
 
 use crate::layout::{
     CHECKSUM_AT, HEADER_SIZE, SIGNATURE, SIZE_AT, SLOT_SIZE, VERSION, VERSION_AT, header_layout,
@@ -13,8 +13,29 @@ use crate::table::{Pir, Slot};
 use mpt_base::{NoMemory, append, put_bytes, put_field, put_fields, put_u16, seal8};
 use std::alloc::Global;
 
+fn links_value(links: [u8; 4])
+    ensures { length links ≡ 4 }
+{
+    let _value = links;
+}
+
+fn irqs_value(irqs: [u16; 4])
+    ensures irqs { length irqs ≡ 4 }
+    ensures small { (pin : ℕ) → slice_index irqs pin < 2 ^ 16 }
+{
+    let _value = irqs;
+}
+
+// that the slot's fields fit
+fn slot_value(slot: Slot)
+    ensures { IsSlotValue slot }
+{
+    links_value(slot.links);
+    irqs_value(slot.irqs);
+}
+
 fn slot_bytes(slot: Slot) -> [u8; 16]
-    ensures { IsSlotAt slot result 0 }
+    ensures { result ≡ slot_bytes slot }
 {
     let mut bytes = [0; 16];
     slot_layout!(put_slot, bytes, slot);
@@ -28,6 +49,7 @@ fn slots_bytes(alloc: Global, slots: &[Slot]) -> Result<Vec<u8>, NoMemory>
 {
     let mut out = Vec::new(alloc);
     for slot in slots {
+        slot_value(*slot);
         append(&mut out, &slot_bytes(*slot))?;
     }
     Ok(out)
@@ -67,6 +89,15 @@ fn header_value(pir: &Pir)
     reserved_value(pir.reserved);
 }
 
+// appends a header, its checksum still zero, and what follows it
+fn push_pieces(out: &mut Vec<u8>, header: &[u8], slots: &[u8]) -> Result<(), NoMemory>
+    ensures { OnOk result (out.new.items ≡ ((out.old.items ++ header.now) ++ 0 ∷ []) ++ slots.now) }
+{
+    append(out, header)?;
+    append(out, &[0])?;
+    append(out, slots)
+}
+
 // the bytes of the table, its checksum still zero
 fn open_bytes(alloc: Global, pir: &Pir) -> Result<Vec<u8>, NoMemory>
     requires few { length pir.now.slots ≤ 4093 }
@@ -77,9 +108,8 @@ fn open_bytes(alloc: Global, pir: &Pir) -> Result<Vec<u8>, NoMemory>
     let size = HEADER_SIZE + SLOT_SIZE * slots.len();
     let slots = slots_bytes(alloc, slots)?;
     let mut out = Vec::new(alloc);
-    append(&mut out, &header_bytes(pir, size as u16))?;
-    append(&mut out, &[0])?;
-    append(&mut out, slots.as_slice())?;
+    let header = header_bytes(pir, size as u16);
+    push_pieces(&mut out, &header, slots.as_slice())?;
     Ok(out)
 }
 

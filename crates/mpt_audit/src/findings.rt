@@ -91,6 +91,25 @@ fn audit_rule(
     Ok(())
 }
 
+// the findings of a table, by its indexes
+fn audit_by(
+    alloc: Global,
+    pointer: &Pointer,
+    table: &Table,
+    bases: &BaseIndex,
+    exts: &ExtIndex,
+) -> Result<Vec<Finding>, AllocError>
+    requires bases { IsBaseIndexOf table.now.base bases.now }
+    requires exts { IsExtIndexOf table.now.ext exts.now }
+    ensures { IfOk result (λ found. ListsInOrder (IsTableFinding pointer.now table.now) found.items) }
+{
+    let mut out = Vec::new(alloc);
+    for n in 0..24u8 {
+        audit_rule(&mut out, pointer, table, bases, exts, n)?;
+    }
+    Ok(out)
+}
+
 fn audit_table(alloc: Global, pointer: &Pointer, table: &Table) -> Result<Vec<Finding>, AllocError>
     requires base { length table.now.base ≤ 65535 }
     requires ext { length table.now.ext ≤ 65535 }
@@ -98,11 +117,7 @@ fn audit_table(alloc: Global, pointer: &Pointer, table: &Table) -> Result<Vec<Fi
 {
     let bases = base_index_of(alloc, table.base.as_slice())?;
     let exts = ext_index_of(alloc, table.ext.as_slice())?;
-    let mut out = Vec::new(alloc);
-    for n in 0..24u8 {
-        audit_rule(&mut out, pointer, table, &bases, &exts, n)?;
-    }
-    Ok(out)
+    audit_by(alloc, pointer, table, &bases, &exts)
 }
 
 fn audit_pointer(alloc: Global, pointer: &Pointer) -> Result<Vec<Finding>, AllocError>

@@ -1,5 +1,6 @@
 pub mod ListLemmas
 pub mod PlatformLemmas
+pub mod KindLemmas
 pub mod RouteLemmas
 pub mod StepLemmas
 pub mod PinLemmas

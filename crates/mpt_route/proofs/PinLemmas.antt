@@ -2,7 +2,7 @@
 use Rattle.std.proofs.Common.{◌≡◌, ℕ, zero, suc, ◌<◌, Bool, true, false, cond, ◌&&◌, List, [], ◌∷◌, length, take, sym, refl, ap, subst, ◌∙◌, arith}
 use Rattle.std.specs.Prelude.{Option, Some, None, ◌==◌, slice_get, find, is_some}
 use Rattle.std.specs.Option.{option_or}
-use Rattle.std.proofs.lemmas.Bool.Decides.{nat_tests}
+use Rattle.std.proofs.lemmas.Bool.{eq-eqb}
 use Rattle.mpt_spec.specs.declared.entry.IntEntry.{IntEntry}
 use Rattle.mpt_route.specs.declared.bus.BusKind.{BusKind}
 use Rattle.mpt_route.specs.declared.platform.Platform.{Platform}
@@ -26,7 +26,7 @@ taken_there : (xs : List Answer) (i : ℕ) (r : Route) → slice_get xs i ≡ So
 taken_there [] i r h = absurd (cc)
 taken_there (x ∷ xs) zero r h =
     let same : x ≡ answer.Routed r = cc in
-    subst (λ (y : Answer). is_some (option_or (low_on r.io r.pin y) (taken_by r.io r.pin xs)) ≡ true) (sym same) (here ((r.io == r.io) && (r.pin == r.pin)) (grind (arith, nat_tests)))
+    subst (λ (y : Answer). is_some (option_or (low_on r.io r.pin y) (taken_by r.io r.pin xs)) ≡ true) (sym same) (here ((r.io == r.io) && (r.pin == r.pin)) (ap (λ t. t && (r.pin == r.pin)) (eq-eqb r.io r.io refl) ∙ eq-eqb r.pin r.pin refl))
   where
     here : (t : Bool) → t ≡ true → is_some (option_or (cond t (Some r.low) None) (taken_by r.io r.pin xs)) ≡ true
     here true q = refl

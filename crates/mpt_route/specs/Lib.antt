@@ -1,5 +1,6 @@
 pub mod Defaults
 pub mod Platform
+pub mod ByKind
 pub mod Sense
 pub mod Routes
 pub mod Index

@@ -1,12 +1,14 @@
 //! The default configurations (MultiProcessor Specification 1.4, chapter 5) as entries.
 
-ghost use Rattle.std.specs.Prelude.{◌≡◌, IfOk};
+ghost use Rattle.std.specs.Prelude.{◌≡◌, [], Bool, IfOk, OnOk};
 ghost use Rattle.mpt_route.specs.Defaults.{row, default_row, default_buses, default_ints, processor, interrupt, int_row, is_connected};
 ghost use Rattle.mpt_route.specs.Platform.{platform_of_body};
+ghost use Rattle.mpt_route.specs.ByKind.{AreByKind, platform_with};
 ghost use Rattle.mpt_spec.specs.declared.tables.Body.TheVariants as body;
 
+use crate::by_kind::{ByKind, no_entries, platform_with};
 use crate::platform::Platform;
-use mpt_spec::{ALL_APICS, Bus, IntEntry, IoApic, Processor, Sequence};
+use mpt_spec::{ALL_APICS, Bus, IntEntry, IoApic, Processor};
 use std::alloc::{AllocError, Global};
 
 /// A row of the table of default configurations.
@@ -91,11 +93,11 @@ fn int_row(irq: u8) -> IntEntry
     interrupt(0, irq, 2, if irq == 0 { 2 } else { irq })
 }
 
-// the buses: bus 0, and PCI as bus 1 where there is one
-fn buses(alloc: Global, row: DefaultRow) -> Result<Vec<Bus>, AllocError>
-    ensures { IfOk result (λ v. v.items ≡ default_buses row) }
+// puts the buses where there are none yet: bus 0, and PCI as bus 1 where there is one
+fn put_buses(buses: &mut Vec<Bus>, row: DefaultRow) -> Result<(), AllocError>
+    requires { buses.old.items ≡ [] }
+    ensures { OnOk result (buses.new.items ≡ default_buses row) }
 {
-    let mut buses = Vec::new(alloc);
     let name = row.bus;
     buses.push(Bus { id: 0, name })?;
     if row.pci {
@@ -104,48 +106,51 @@ fn buses(alloc: Global, row: DefaultRow) -> Result<Vec<Bus>, AllocError>
             name: *b"PCI   ",
         })?;
     }
-    Ok(buses)
+    Ok(())
 }
 
-// the I/O interrupts: ExtINT at pin 0, then the connected IRQs, each at its pin but IRQ 0 at pin 2
-fn ints(alloc: Global, number: u8) -> Result<Vec<IntEntry>, AllocError>
-    ensures { IfOk result (λ v. v.items ≡ default_ints number) }
+// puts the I/O interrupts where there are none yet: ExtINT at pin 0, then the connected IRQs, each at its
+// pin but IRQ 0 at pin 2
+fn put_ints(ints: &mut Vec<IntEntry>, number: u8) -> Result<(), AllocError>
+    requires { ints.old.items ≡ [] }
+    ensures { OnOk result (ints.new.items ≡ default_ints number) }
 {
-    let mut ints = Vec::new(alloc);
     ints.push(interrupt(3, 0, 2, 0))?;
     for irq in 0..16 {
         if is_connected(number, irq) {
             ints.push(int_row(irq))?;
         }
     }
-    Ok(ints)
+    Ok(())
+}
+
+// puts the entries of a default configuration where there are none yet
+fn put_default(kinds: &mut ByKind, number: u8) -> Result<(), AllocError>
+    requires { AreByKind [] kinds.old }
+    ensures { OnOk result ((imcr : Bool) → platform_with kinds.new imcr 0xFEE00000 ≡ platform_of_body imcr (body.Default number)) }
+{
+    let row = default_row(number);
+    kinds.processors.extend_from_slice(&[
+        processor(0, row.local, 0x03),
+        processor(1, row.local, 0x01),
+    ])?;
+    put_buses(&mut kinds.buses, row)?;
+    kinds.ios.push(IoApic {
+        id: 2,
+        version: row.io,
+        flags: 0x01,
+        address: 0xFEC0_0000,
+    })?;
+    put_ints(&mut kinds.ints, number)?;
+    kinds.lints.extend_from_slice(&[interrupt(3, 0, ALL_APICS, 0), interrupt(1, 0, ALL_APICS, 1)])?;
+    Ok(())
 }
 
 /// The platform of a default configuration.
 pub fn default_platform(alloc: Global, number: u8, imcr: bool) -> Result<Platform, AllocError>
     ensures { IfOk result (λ p. p ≡ platform_of_body imcr (body.Default number)) }
 {
-    let row = default_row(number);
-    let mut processors = Vec::new(alloc);
-    processors.push(processor(0, row.local, 0x03))?;
-    processors.push(processor(1, row.local, 0x01))?;
-    let mut ios = Vec::new(alloc);
-    ios.push(IoApic {
-        id: 2,
-        version: row.io,
-        flags: 0x01,
-        address: 0xFEC0_0000,
-    })?;
-    let mut lints = Vec::new(alloc);
-    lints.push(interrupt(3, 0, ALL_APICS, 0))?;
-    lints.push(interrupt(1, 0, ALL_APICS, 1))?;
-    Ok(Platform {
-        processors: Sequence::new(processors),
-        buses: Sequence::new(buses(alloc, row)?),
-        ios: Sequence::new(ios),
-        ints: Sequence::new(ints(alloc, number)?),
-        lints: Sequence::new(lints),
-        imcr,
-        local_address: 0xFEE0_0000,
-    })
+    let mut kinds = no_entries(alloc);
+    put_default(&mut kinds, number)?;
+    Ok(platform_with(kinds, imcr, 0xFEE0_0000))
 }

@@ -4,6 +4,7 @@
 #![tactic(auto)]
 
 mod bus;
+mod by_kind;
 mod defaults;
 mod pins;
 mod platform;

@@ -5,9 +5,10 @@ ghost use Rattle.mpt_route.specs.Platform.{platform_of, platform_of_body, is_boo
 ghost use Rattle.mpt_spec.specs.Canonical.{IsWellFormed};
 ghost use Rattle.mpt_spec.specs.declared.tables.Body.TheVariants as body;
 
+use crate::by_kind::{gather, no_entries, platform_with};
 use crate::defaults::default_platform;
 use mpt_base::NoMemory;
-use mpt_spec::{Base, Body, Bus, IntEntry, IoApic, Processor, Sequence, Table, Tables};
+use mpt_spec::{Body, Bus, IntEntry, IoApic, Processor, Sequence, Table, Tables};
 use std::alloc::{AllocError, Global};
 
 /// The entries of a table or a default configuration by kind, in table order.
@@ -56,29 +57,9 @@ fn platform_of_body(alloc: Global, body: &Body, imcr: bool) -> Result<Platform, 
 fn listed_platform(alloc: Global, table: &Table, imcr: bool) -> Result<Platform, AllocError>
     ensures { IfOk result (λ p. p ≡ platform_of_body imcr (body.Listed table.now)) }
 {
-    let mut processors = Vec::new(alloc);
-    let mut buses = Vec::new(alloc);
-    let mut ios = Vec::new(alloc);
-    let mut ints = Vec::new(alloc);
-    let mut lints = Vec::new(alloc);
-    for entry in table.base.as_slice() {
-        match *entry {
-            Base::Processor(e) => processors.push(e)?,
-            Base::Bus(e) => buses.push(e)?,
-            Base::IoApic(e) => ios.push(e)?,
-            Base::IoInt(e) => ints.push(e)?,
-            Base::LocalInt(e) => lints.push(e)?,
-        }
-    }
-    Ok(Platform {
-        processors: Sequence::new(processors),
-        buses: Sequence::new(buses),
-        ios: Sequence::new(ios),
-        ints: Sequence::new(ints),
-        lints: Sequence::new(lints),
-        imcr,
-        local_address: table.local_address,
-    })
+    let mut kinds = no_entries(alloc);
+    gather(&mut kinds, table.base.as_slice())?;
+    Ok(platform_with(kinds, imcr, table.local_address))
 }
 
 /// The boot processor: the first processor whose entry has EN and BP (section 4.3.1).

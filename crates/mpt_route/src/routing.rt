@@ -1,7 +1,7 @@
 //! From a platform to its routes, in one pass over the interrupt entries (82093AA datasheet, section
 //! 3.2.4). Buses are looked up in a table by id, and taken pins in one by place and pin.
 
-ghost use Rattle.std.specs.Prelude.{◌≡◌, vec_len, ℕ, None, Some, replicate, ◌≤◌, ◌<◌, length, map, take, filter, IfOk, IfSome, position, ◌^◌, ◌==◌};
+ghost use Rattle.std.specs.Prelude.{◌≡◌, vec_len, ℕ, None, Some, replicate, ◌≤◌, ◌<◌, length, map, take, filter, IfOk, IfSome, position, slice_index_or, ◌^◌, ◌==◌};
 ghost use Rattle.mpt_route.specs.Routes.{routes_of, high_word_of, bus_kind_in, is_enabled, is_other, row_at, vector_of, mode_of, low_word_of};
 ghost use Rattle.mpt_route.specs.Reasons.{AreRoutesOf};
 ghost use Rattle.mpt_route.specs.Pins.{HasPins, low_at};
@@ -31,20 +31,36 @@ pub fn routes(alloc: Global, p: &Platform, elcr: u16) -> Result<Vec<Answer>, NoM
     }
 }
 
-// the answers, one pass with the tables by bus id and by pin
-fn all_answers(alloc: Global, p: &Platform, elcr: u16) -> Result<Vec<Answer>, AllocError>
-    requires { length p.now.ints < 2 ^ 32 }
+// the type of the bus with an id, by the table
+fn kind_at(buses: &[Option<BusKind>], id: u8) -> Option<BusKind>
+    requires { length buses.now ≡ 256 }
+    ensures value { result ≡ slice_index_or buses.now id None }
+    ensures byte { id < 256 }
+{
+    buses[usize::from(id)]
+}
+
+// the answers, by the types of buses and the ids of I/O APICs
+fn answers_by(
+    alloc: Global,
+    p: &Platform,
+    buses: &[Option<BusKind>],
+    ios: &[u8],
+    elcr: u16,
+) -> Result<Vec<Answer>, AllocError>
+    requires entries { length p.now.ints < 2 ^ 32 }
+    requires buses { IsTableOf 256 buses.now (bus_kind_in p.now.buses) }
+    requires ios { ios.now ≡ map (λ io. io.id) (take 4 (filter is_enabled p.now.ios)) }
+    requires few { length ios.now ≤ 4 }
     ensures { IfOk result (λ answers. answers.items ≡ routes_of p.now elcr) }
 {
-    let buses = first_buses(alloc, p.buses.as_slice())?;
-    let ios = routable_ids(alloc, p.ios.as_slice())?;
     let high = high_word(p);
     let mut lows = no_lows();
     let mut answers = Vec::new(alloc);
     for e in p.ints.as_slice() {
         let entry = answers.len() as u32;
-        let bus = buses[usize::from(e.bus)];
-        let place = io_place(&ios, e.dest);
+        let bus = kind_at(buses, e.bus);
+        let place = io_place(ios, e.dest);
         let answer = match own_answer(bus, place, high, elcr, entry, *e) {
             Ok(row) => settle(&mut lows, row),
             Err(why) => Answer::Unrouted { entry, why },
@@ -52,6 +68,16 @@ fn all_answers(alloc: Global, p: &Platform, elcr: u16) -> Result<Vec<Answer>, Al
         answers.push(answer)?;
     }
     Ok(answers)
+}
+
+// the answers, one pass with the tables by bus id and by pin
+fn all_answers(alloc: Global, p: &Platform, elcr: u16) -> Result<Vec<Answer>, AllocError>
+    requires { length p.now.ints < 2 ^ 32 }
+    ensures { IfOk result (λ answers. answers.items ≡ routes_of p.now elcr) }
+{
+    let buses = first_buses(alloc, p.buses.as_slice())?;
+    let ios = routable_ids(alloc, p.ios.as_slice())?;
+    answers_by(alloc, p, buses.as_slice(), ios.as_slice(), elcr)
 }
 
 // no pin taken

@@ -1,3 +1,4 @@
 pub mod PlaceLemmas
 pub mod SenseLemmas
 pub mod MeetLemmas
+pub mod IndexLemmas

@@ -1,9 +1,7 @@
-use Rattle.std.proofs.Common.{◌≡◌, ◌+◌, ◌++◌, take, length}
-use Rattle.std.specs.Prelude.{sum_by}
+use Rattle.std.proofs.Common.{◌≡◌, ◌++◌, take}
 use Rattle.std.specs.List.{flat_map}
-use Rattle.mpf_madt.specs.Entries.{entry_length}
 use Rattle.mpf_madt.specs.Spelling.{entry_bytes}
 use Rattle.mpf_madt.proofs.writing.push_entries.Given as goal
 
 abbrev pub invariant-loop-entry : goal.invariant-loop-entry
-invariant-loop-entry l = (l.out.items ≡ l.fn.out.items ++ flat_map entry_bytes (take l.entry-index l.entries)) × (length l.out.items ≡ length l.fn.out.items + sum_by entry_length (take l.entry-index l.entries))
+invariant-loop-entry l = l.out.items ≡ l.fn.out.items ++ flat_map entry_bytes (take l.entry-index l.entries)

@@ -1,9 +1,7 @@
 use Rattle.std.proofs.Common.{◌≡◌, ℕ, ◌+◌, ◌<◌, List, [], ◌∷◌, ◌++◌, length, length-append, get_or, take, ap, sym, subst, ◌∙◌, arith}
-use Rattle.std.specs.Prelude.{Option, None, ◌==◌, position, filter}
-use Rattle.std.proofs.lemmas.List.{get_or_read}
+use Rattle.std.specs.Prelude.{Option, ◌==◌, position, filter}
 use Rattle.mpt_spec.specs.declared.entry.IntEntry.{IntEntry}
 use Rattle.mpt_spec.specs.declared.entry.IoApic.{IoApic}
-use Rattle.mpt_spec.specs.declared.entry.Bus.{Bus}
 use Rattle.mpt_route.specs.Routes.{bus_kind_in, io_place_in, high_word_of, is_enabled}
 use Rattle.mpt_route.specs.Index.{own_answer}
 use Rattle.mpt_route.specs.Pins.{HasPins, answer_on, low_at}
@@ -11,8 +9,8 @@ use Rattle.mpt_route.specs.declared.route.Answer.{Answer}
 use Rattle.mpt_route.specs.declared.route.Answer.TheVariants as answer
 use Rattle.mpt_route.proofs.ListLemmas.{position_of_key}
 use Rattle.mpt_route.proofs.RouteLemmas.{found_more, looked_up, settled, refused, lows_after, lows_stay}
-use Rattle.mpt_route.proofs.routing.all_answers.Goals as goal
-use Rattle.mpt_route.proofs.routing.all_answers.Goals.{in-Ok, in-Err}
+use Rattle.mpt_route.proofs.routing.answers_by.Goals as goal
+use Rattle.mpt_route.proofs.routing.answers_by.Goals.{in-Ok, in-Err}
 
 -- what the code's indexing names past the end
 d : IntEntry
@@ -31,15 +29,10 @@ loop-e-preserved c =
     let inside : i < length es = omega (arith, c.loop-e-test.true) in
     let e : IntEntry = get_or es i d in
     let old = c.loop-e.answers.items in
-    let table = c.in_ok-buses.buses.items in
-    let whole : length table ≡ 256 = c.in_ok-buses.ensures.whole in
-    let small : c.from.result < 256 = omega arith in
-    let b : c.index-bus.result.now ≡ bus_kind_in p.buses e.bus =
-    get_or_read table c.from.result c.index-bus.result.now (omega arith) c.index-bus.ensures None ∙ c.in_ok-buses.ensures.members c.from.result small
-    ∙ ap (bus_kind_in c.as_slice.result.now) c.from.ensures ∙ ap (λ (bs : List Bus). bus_kind_in bs e.bus) c.as_slice.ensures in
+    let b : c.kind_at-bus.result ≡ bus_kind_in p.buses e.bus = c.kind_at-bus.ensures.value ∙ c.requires.buses.members e.bus c.kind_at-bus.ensures.byte in
     let place : c.io_place-place.result ≡ io_place_in p.ios e.dest =
-    c.io_place-place.ensures.value ∙ ap (λ (xs : List ℕ). position (λ (x : ℕ). x == e.dest) xs) (c.deref.ensures.value ∙ c.in_ok-ios.ensures.value)
-    ∙ position_of_key (λ (io : IoApic). io.id) e.dest (take 4 (filter is_enabled c.as_slice-2.result.now)) ∙ ap (λ (ios : List IoApic). io_place_in ios e.dest) c.as_slice-2.ensures in
+    c.io_place-place.ensures.value ∙ ap (λ (xs : List ℕ). position (λ (x : ℕ). x == e.dest) xs) c.requires.ios
+    ∙ position_of_key (λ (io : IoApic). io.id) e.dest (take 4 (filter is_enabled p.ios)) in
     let high : c.high_word-high.result ≡ high_word_of p.processors = c.high_word-high.ensures in
     let n : c.len-entry.result ≡ length old = omega arith in
     let own : c.own_answer.result ≡ own_answer (bus_kind_in p.buses e.bus) (io_place_in p.ios e.dest) (high_word_of p.processors) c.args.elcr (length old) e =

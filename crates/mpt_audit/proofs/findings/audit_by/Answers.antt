@@ -1,7 +1,7 @@
 use Rattle.std.proofs.Common.{◌≡◌, ℕ, sym, subst, arith}
 use Rattle.mpt_audit.specs.Progress.{AreFindingsBefore}
 use Rattle.mpt_audit.proofs.FindingLemmas.{start, whole}
-use Rattle.mpt_audit.proofs.findings.audit_table.Goals as goal
+use Rattle.mpt_audit.proofs.findings.audit_by.Goals as goal
 
 pub loop-n-init : goal.loop-n-init
 loop-n-init c = subst (AreFindingsBefore c.args.pointer.now c.args.table.now 0 0) (sym c.new-out.ensures.items) (start c.args.pointer.now c.args.table.now)

@@ -2,15 +2,15 @@ use Rattle.std.proofs.Common.{◌≡◌, map, ap, [], ◌∷◌, ◌∙◌}
 use Rattle.mpf_pir.specs.Made.{device_entries, slot_of}
 use Rattle.mpf_pir.specs.Index.{slot_with}
 use Rattle.mpf_pir.proofs.WiringLemmas.{slots_with-of}
-use Rattle.mpf_pir.proofs.making.make.Goals as goal
+use Rattle.mpf_pir.proofs.making.pir_by.Goals as goal
 
 pub returns-clause-table : goal.returns-clause-table
 returns-clause-table c =
     let p = c.args.p.now in
-    let w = c.in_ok-wiring.wiring in
+    let w = c.args.wiring.now in
     let slots : c.new.result ≡ map (slot_of p) (device_entries p) =
     c.new.ensures ∙ c.in_ok-slots.ensures ∙ ap (map (slot_with w.pins.entries.items w.wires.entries.items)) c.as_slice.ensures.value
-    ∙ slots_with-of p w.pins.entries.items w.wires.entries.items w.devices.items c.in_ok-wiring.ensures.pins c.in_ok-wiring.ensures.wires c.in_ok-wiring.ensures.devices in
+    ∙ slots_with-of p w.pins.entries.items w.wires.entries.items w.devices.items c.requires.wiring.pins c.requires.wiring.wires c.requires.wiring.devices in
     λ i. record {
       router_bus = 0;
       router_function = 0;

@@ -1,6 +1,6 @@
 use Rattle.std.proofs.Common.{ℕ}
 use Rattle.mpf_pir.specs.Progress.{AreDifferencesBelow, IsSeen, seen_at}
-use Rattle.mpf_pir.proofs.comparing.differences.Given as goal
+use Rattle.mpf_pir.proofs.comparing.differences_by.Given as goal
 
 abbrev pub invariant-loop-number : goal.invariant-loop-number
 invariant-loop-number l = record {

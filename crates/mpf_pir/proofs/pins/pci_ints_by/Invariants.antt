@@ -3,7 +3,7 @@ use Rattle.std.specs.Prelude.{filter}
 use Rattle.std.specs.List.{AllByRecursion}
 use Rattle.mpf_pir.specs.Pins.{is_on_pci}
 use Rattle.mpf_pir.specs.Index.{HasBytePin}
-use Rattle.mpf_pir.proofs.pins.pci_ints.Given as goal
+use Rattle.mpf_pir.proofs.pins.pci_ints_by.Given as goal
 
 abbrev pub invariant-loop-e : goal.invariant-loop-e
 invariant-loop-e l = record {

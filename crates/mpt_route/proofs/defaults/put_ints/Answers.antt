@@ -1,7 +1,7 @@
 use Rattle.std.proofs.Common.{ap, sym, ◌∙◌}
 use Rattle.mpt_route.proofs.PlatformLemmas.{int_grows, int_passes}
-use Rattle.mpt_route.proofs.defaults.ints.Goals as goal
-use Rattle.mpt_route.proofs.defaults.ints.Goals.{then-is_connected+in_ok-push-2, else-is_connected}
+use Rattle.mpt_route.proofs.defaults.put_ints.Goals as goal
+use Rattle.mpt_route.proofs.defaults.put_ints.Goals.{then-is_connected+in_ok-push-2, else-is_connected}
 
 pub loop-irq-preserved : goal.loop-irq-preserved
 loop-irq-preserved c =

@@ -8,8 +8,8 @@ use Rattle.mpt_route.specs.Routes.{bus_kind_in}
 use Rattle.mpf_pir.specs.Index.{is_int_on, HasBytePin}
 use Rattle.mpf_pir.proofs.WiringLemmas.{all_push}
 use Rattle.mpf_pir.proofs.TableLemmas.{passes_more, fails_more}
-use Rattle.mpf_pir.proofs.pins.pci_ints.Goals as goal
-use Rattle.mpf_pir.proofs.pins.pci_ints.Goals.{then-is_int_on+in_ok-push, else-is_int_on}
+use Rattle.mpf_pir.proofs.pins.pci_ints_by.Goals as goal
+use Rattle.mpf_pir.proofs.pins.pci_ints_by.Goals.{then-is_int_on+in_ok-push, else-is_int_on}
 
 -- what the code's indexing names past the end
 d : IntEntry
@@ -23,10 +23,10 @@ loop-e-preserved c =
     let i = c.loop-e.e-index in
     let inside : i < length es = omega (arith, c.loop-e-test.true) in
     let e : IntEntry = get_or es i d in
-    let table : List (Option BusKind) = c.in_ok-buses.buses.items in
+    let table : List (Option BusKind) = c.args.buses.now in
     let small : e.bus < 256 = c.is_int_on.ensures.bus in
-    let read : get_or table e.bus None ≡ bus_kind_in p.buses e.bus = c.in_ok-buses.ensures.members e.bus small ∙ ap (λ bs. bus_kind_in bs e.bus) c.as_slice.ensures in
-    let test : c.is_int_on.result ≡ is_on_pci p e = c.is_int_on.ensures.value ∙ ap (λ t. is_int_on (get_or t e.bus None) e) c.deref.ensures.value ∙ ap (λ o. is_int_on o e) read in
+    let read : get_or table e.bus None ≡ bus_kind_in p.buses e.bus = c.requires.members e.bus small in
+    let test : c.is_int_on.result ≡ is_on_pci p e = c.is_int_on.ensures.value ∙ ap (λ o. is_int_on o e) read in
     elim c.if-is_int_on.branch [
       | then-is_int_on+in_ok-push w ↦
           let pushed : c.if-is_int_on.ints.items ≡ c.loop-e.ints.items ++ e ∷ [] = ap (λ v. v.items) w.ints-is ∙ w.in_ok-push.ensures.items in

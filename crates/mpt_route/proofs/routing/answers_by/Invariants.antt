@@ -2,7 +2,7 @@ use Rattle.std.proofs.Common.{◌≡◌, [], length, take}
 use Rattle.std.specs.Prelude.{fold}
 use Rattle.mpt_route.specs.Routes.{routes_after}
 use Rattle.mpt_route.specs.Pins.{HasPins, IsLowsOf}
-use Rattle.mpt_route.proofs.routing.all_answers.Given as goal
+use Rattle.mpt_route.proofs.routing.answers_by.Given as goal
 
 abbrev pub invariant-loop-e : goal.invariant-loop-e
 invariant-loop-e l = record {

@@ -1,17 +1,15 @@
-use Rattle.std.proofs.Common.{◌≡◌, ◌+◌, ◌/◌, ◌%◌, ◌<◌, ℕ, List, [], ◌∷◌, ◌++◌, length, get_or, ap, sym, subst, ◌∙◌, arith}
-use Rattle.std.specs.Prelude.{Option, Some, None, IfSome, option_map, slice_index}
-use Rattle.mpf_pir.specs.declared.pins.By.TheVariants as by
+use Rattle.std.proofs.Common.{◌≡◌, ◌+◌, ◌/◌, ◌<◌, ℕ, List, [], ◌∷◌, ◌++◌, length, get_or, ap, sym, subst, ◌∙◌, arith}
+use Rattle.std.specs.Prelude.{Option, Some, None, IfSome}
 use Rattle.mpf_pir.specs.declared.pins.Wire.{Wire}
 use Rattle.mpf_pir.specs.declared.comparing.Seen.{Seen}
 use Rattle.mpf_pir.specs.Pins.{wire_at}
-use Rattle.mpf_pir.specs.Made.{firsts, pin_entries}
-use Rattle.mpf_pir.specs.Index.{is_same_by, wire_by}
-use Rattle.mpf_pir.specs.Differences.{link_at, connected}
+use Rattle.mpf_pir.specs.Index.{wire_by}
+use Rattle.mpf_pir.specs.Differences.{link_at}
 use Rattle.mpf_pir.specs.Progress.{links_of, pin_at, seen_at, IsSeen, AreDifferencesBelow}
-use Rattle.mpf_pir.proofs.WiringLemmas.{pins_are, wire_by-at}
+use Rattle.mpf_pir.proofs.WiringLemmas.{wire_by-at}
 use Rattle.mpf_pir.proofs.ComparisonLemmas.{length-seen, own_number, link_by_number, seen_step, odd_here, even_here, found, passed}
-use Rattle.mpf_pir.proofs.comparing.differences.Goals as goal
-use Rattle.mpf_pir.proofs.comparing.differences.Goals.{in-Some+in_ok-push, in_default}
+use Rattle.mpf_pir.proofs.comparing.differences_by.Goals as goal
+use Rattle.mpf_pir.proofs.comparing.differences_by.Goals.{in-Some+in_ok-push, in_default}
 
 pub loop-number-preserved : goal.loop-number-preserved
 loop-number-preserved c =
@@ -22,11 +20,10 @@ loop-number-preserved c =
     let s : List Seen = c.loop-number.seen in
     let link : Option ℕ = c.link_at-link.result in
     let wire : Option Wire = c.wire_at-wire.result in
-    let pins : c.in_ok-pins.pins.entries.items ≡ pin_entries p = c.in_ok-pins.ensures.are.firsts_are ∙ ap (firsts (is_same_by by.Pin)) (c.as_slice.ensures.value ∙ c.in_ok-ints.ensures.ints) ∙ pins_are p in
-    let wired : wire_at p (pin_at n) ≡ wire = sym (c.wire_at-wire.ensures ∙ ap (λ es. wire_by es n) pins ∙ wire_by-at p (pin_at n) n (omega arith) (omega arith) (own_number n)) in
-    let table : get_or c.in_ok-slots.slots.items (n / 4) None ≡ links_of t.slots (n / 4) = c.in_ok-slots.ensures.members (n / 4) (omega arith) ∙ ap (λ ss. links_of ss (n / 4)) c.as_slice-2.ensures in
+    let wired : wire_at p (pin_at n) ≡ wire = sym (c.wire_at-wire.ensures ∙ ap (λ es. wire_by es n) c.requires.pins ∙ wire_by-at p (pin_at n) n (omega arith) (omega arith) (own_number n)) in
+    let table : get_or c.args.slots.now (n / 4) None ≡ links_of t.slots (n / 4) = c.requires.slots.members (n / 4) (omega arith) in
     let linked : link_at t (pin_at n) ≡ link =
-    sym (c.link_at-link.ensures.value ∙ ap (λ xs. connected (option_map (λ links. slice_index links (n % 4)) (get_or xs (n / 4) None))) c.as_slice-in-loop-number.ensures.value ∙ link_by_number t n (get_or c.in_ok-slots.slots.items (n / 4) None) table) in
+    sym (c.link_at-link.ensures.value ∙ link_by_number t n (get_or c.args.slots.now (n / 4) None) table) in
     let long : length s ≡ 256 = sym (length-seen link wire s) ∙ sym (ap length c.odd_of.ensures.seen) ∙ c.odd_of.array_long in
     let byte : (l : ℕ) → link ≡ Some l → l < length s = λ l e. let below : l < 256 = subst (λ o. IfSome o (λ x. x < 256)) e c.link_at-link.ensures.byte in omega (arith, below, long) in
     let seen : (l : ℕ) → IsSeen p t (n + 1) l (seen_at c.odd_of.new.seen l) =

@@ -1,0 +1,20 @@
+use Rattle.std.proofs.Common.{◌++◌, List, get_or, take, sym, ap, ◌∙◌, arith}
+use Rattle.std.specs.List.{flat_map}
+use Rattle.std.proofs.lemmas.List.{take_more, flat_map_more}
+use Rattle.std.specs.Prelude.{false}
+use Rattle.mpf_answers.specs.declared.differing_lines.LineDifference.{LineDifference}
+use Rattle.mpf_answers.specs.LineDifferences.{difference_line}
+use Rattle.mpf_answers.proofs.differing_lines.push_lines.Goals as goal
+
+-- what the code's indexing names past the end
+d : LineDifference
+d = record { irq = 0; mp = record { gsi = 0; level = false; low = false }; madt = record { gsi = 0; level = false; low = false } }
+
+pub loop-difference-preserved : goal.loop-difference-preserved
+unfolding d
+loop-difference-preserved c =
+    let xs = c.args.differences.now in
+    let i = c.loop-difference.difference-index in
+    let start = c.args.out.now.items in
+    c.in_ok-push_difference.ensures ∙ ap (λ text. text ++ difference_line (get_or xs i d)) c.loop-difference.invariant ∙ flat_map_more difference_line start (take i xs) (get_or xs i d)
+    ∙ ap (λ (ys : List LineDifference). start ++ flat_map difference_line ys) (sym (take_more xs i d (omega (arith, c.loop-difference-test.true))))

@@ -1,0 +1,20 @@
+use Rattle.std.proofs.Common.{◌++◌, List, get_or, take, sym, ap, ◌∙◌, arith}
+use Rattle.std.specs.List.{flat_map}
+use Rattle.std.proofs.lemmas.List.{take_more, flat_map_more}
+use Rattle.mpt_route.specs.declared.route.Answer.{Answer}
+use Rattle.mpt_route.specs.declared.route.Answer.TheVariants as answer
+use Rattle.mpt_answers.specs.RouteLines.{route_line}
+use Rattle.mpt_answers.proofs.route_lines.push_answers.Goals as goal
+
+-- what the code's indexing names past the end
+d : Answer
+d = answer.Routed (record { io = 0; pin = 0; vector = 0; low = 0; high = 0; entry = 0 })
+
+pub loop-answer-preserved : goal.loop-answer-preserved
+unfolding d
+loop-answer-preserved c =
+    let xs = c.args.answers.now in
+    let i = c.loop-answer.answer-index in
+    let start = c.args.out.now.items in
+    c.in_ok-push_answer.ensures ∙ ap (λ text. text ++ route_line (get_or xs i d)) c.loop-answer.invariant ∙ flat_map_more route_line start (take i xs) (get_or xs i d)
+    ∙ ap (λ (ys : List Answer). start ++ flat_map route_line ys) (sym (take_more xs i d (omega (arith, c.loop-answer-test.true))))
