@@ -1,16 +1,13 @@
 -- The seats as `new` gives them and `close` takes them, and how large a count may grow.
-use Rattle.std.proofs.Common.{◌≡◌, ℕ, zero, suc, ◌+◌, ◌<◌, ◌≤◌, Bool, true, false, List, [], ◌∷◌, ◌++◌, length, get_or, map, take, drop, sum_by, All, Any, cond, refl, sym, ap, ◌∙◌, subst, arith}
-use mathlib.Core.Logic.{dite}
-use native.Mathlib.Decide.{ℕ_discrete}
+use Rattle.std.proofs.Common.{◌≡◌, ℕ, ◌+◌, ◌<◌, ◌≤◌, true, List, [], ◌∷◌, ◌++◌, length, get_or, map, take, drop, sum_by, All, sym, ap, ◌∙◌, arith}
 use Rattle.std.specs.List.{range_with_len}
-use Rattle.std.proofs.lemmas.List.{length-map, length-drop, get_or-map, get_or-drop, drop_more, take_more}
+use Rattle.std.proofs.lemmas.List.{length-map, length-drop, get_or-map, drop_more, take_more}
 use Rattle.std.proofs.lemmas.List.FromFn.{length-map-range_with_len, get_or-map-range_with_len}
 use Rattle.std.proofs.lemmas.List.Sums.{sum_by-cons, sum_by-le-sum_by}
 use Rattle.mpb_spec.specs.declared.pulse.Pulse.{Pulse}
-use Rattle.mpb_spec.specs.declared.pulse.Hit.{Hit}
 use Rattle.mpb_latch.specs.declared.view.DeviceView.{DeviceView}
 use Rattle.mpb_latch.specs.declared.view.CollectorView.{CollectorView}
-use Rattle.mpb_spec.specs.Pulses.{is_on, is_new, planned_in, starts}
+use Rattle.mpb_spec.specs.Pulses.{is_on, planned_in}
 use Rattle.mpb_spec.specs.Lists.{one_if, rest_of}
 use Rattle.atomic_table.specs.Seated.{TableId}
 use Rattle.mpb_latch.specs.Seats.{CollectorSeat, fresh_collector_seat}

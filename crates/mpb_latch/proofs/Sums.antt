@@ -1,9 +1,8 @@
 -- What is added up over all views, after a change of one.
-use Rattle.std.proofs.Common.{◌≡◌, ℕ, zero, suc, ◌+◌, ◌≤◌, List, [], ◌∷◌, set, sum_by, All, refl, sym, ap, subst, ⊎_elim, arith}
-use mathlib.Core.Option.{some, some-injective, some-ne-none}
+use Rattle.std.proofs.Common.{◌≡◌, ℕ, suc, ◌+◌, ◌≤◌, List, [], ◌∷◌, set, sum_by, All, refl, arith}
+use mathlib.Core.Option.{some}
 use lib.ListN.{get_elem?}
 use Rattle.std.proofs.lemmas.List.Sums.{sum_by-cons}
-use Rattle.atomic_table.proofs.Lists.{at_set}
 use Rattle.mpb_latch.specs.declared.view.DeviceView.{DeviceView}
 use Rattle.mpb_latch.specs.declared.view.CollectorView.{CollectorView}
 use Rattle.mpb_latch.specs.declared.view.SeatView.{SeatView}

@@ -1,6 +1,6 @@
 -- The rule of the shared latch, which only this crate's private functions cite: this project's own.
 -- Word 0 counts the devices that have ended, and word i + 1 is the set of the latched pins of the I/O APIC at place i.
-use Rattle.std.specs.Prelude.{◌≡◌, ℕ, ◌+◌, ◌<◌, ◌≤◌, ◌^◌, ◌&&◌, ◌||◌, ◌==◌, ◌⊎◌, if◌then◌else◌, Bool, true, false, List, [], ◌∷◌, ◌++◌, map, length, replicate, slice_index, slice_index_or, All, sum_by, count_by}
+use Rattle.std.specs.Prelude.{◌≡◌, ℕ, ◌+◌, ◌<◌, ◌≤◌, ◌^◌, ◌&&◌, ◌||◌, ◌==◌, ◌⊎◌, if◌then◌else◌, Bool, true, false, List, [], ◌∷◌, ◌++◌, map, length, replicate, slice_index, slice_index_or, All, sum_by}
 use Rattle.std.specs.List.{range_with_len}
 use Rattle.std.specs.Int.{bit_at}
 use mathlib.Core.Option.{some}
@@ -8,7 +8,6 @@ use lib.ListN.{get_elem?}
 use Rattle.atomic_table.specs.Seated.{TableId}
 use Rattle.atomic_table.specs.Table.{State, Me, Step}
 use Rattle.mpb_spec.specs.declared.pulse.Pulse.{Pulse}
-use Rattle.mpb_spec.specs.declared.pulse.Hit.{Hit}
 use Rattle.mpb_latch.specs.declared.view.DeviceView.{DeviceView}
 use Rattle.mpb_latch.specs.declared.view.CollectorView.{CollectorView}
 use Rattle.mpb_latch.specs.declared.view.SeatView.{SeatView}

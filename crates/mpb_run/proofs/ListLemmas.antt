@@ -43,15 +43,10 @@ length_at d [] = refl
 length_at zero (x ∷ xs) = refl
 length_at (suc d) (x ∷ xs) = length_at d xs
 
-lengths : {X Y : Type 0} (items : Y → List X) (ys : List Y) → map (λ x. length x) (map items ys) ≡ map (λ y. length (items y)) ys
+-- the lengths of members, and of the lists that they show
+pub lengths : {X Y : Type 0} (items : Y → List X) (ys : List Y) → map (λ x. length x) (map items ys) ≡ map (λ y. length (items y)) ys
 lengths items [] = refl
 lengths items (y ∷ ys) = ap (λ l. length (items y) ∷ l) (lengths items ys)
-
--- rooms that are the lengths of lists
-pub rooms_are : {X Y Z : Type 0} (items : Y → List X) (room : Z → ℕ) (ys : List Y) (zs : List Z) (xs : List (List X)) → map room zs ≡ map (λ y. length (items y)) ys → map items ys ≡ xs → (d : ℕ) → get_or (map (λ x. length x) xs) d 0 ≤ get_or (map room zs) d 0
-rooms_are items room ys zs xs rooms same d =
-    let e = ap (λ (l : List ℕ). get_or l d 0) (ap (λ l. map (λ x. length x) l) (sym same) ∙ lengths items ys ∙ sym rooms) in
-    omega arith
 
 -- ---- acts
 

@@ -6,8 +6,12 @@ ghost use Rattle.mpb_spec.specs.State.{change_at};
 ghost use Rattle.mpb_spec.specs.Pulses.{with_pins};
 
 use mpb_latch::add_pins;
-use mpb_spec::{DevWord, Hit, PINS, Pulse};
+use mpb_spec::{Config, DevWord, Hit, PINS, Pulse};
 use std::alloc::{AllocError, Global};
+
+/// What a run keeps for the account: how many things each device has done, its log, and how often each pin
+/// of each I/O APIC was collected.
+pub(crate) type Kept = (Vec<usize>, Vec<Vec<(Pulse, Hit)>>, Vec<Vec<u32>>);
 
 /// The device has done one thing more.
 pub(crate) fn one_more(made: &mut Vec<usize>, device: usize)
@@ -38,18 +42,29 @@ pub(crate) fn count_pins(counts: &mut Vec<Vec<u32>>, place: usize, pins: u32)
     add_pins(&mut counts[place], pins);
 }
 
-/// No device has done anything.
-pub(crate) fn none_made(alloc: Global, n: usize) -> Result<Vec<usize>, AllocError>
+/// What is kept of a board of this config, where nothing has happened. Each log has room for a pulse at
+/// each of the device's words.
+pub(crate) fn nothing_kept(alloc: Global, config: &Config) -> Result<Kept, AllocError>
+    ensures made { IfOk result (λ kept. kept.0.items ≡ replicate (length config.now.devices) 0) }
+    ensures logs { IfOk result (λ kept. map (λ l. l.items) kept.1.items ≡ replicate (length config.now.devices) []) }
+    ensures room { IfOk result (λ kept. map (λ l. vec_capacity l) kept.1.items ≡ map (λ words. length words) config.now.devices) }
+    ensures counts { IfOk result (λ kept. map (λ l. l.items) kept.2.items ≡ replicate (length config.now.ios) (replicate 24 0)) }
+{
+    let made = none_made(alloc, config.devices.len())?;
+    let logs = no_logs(alloc, config.devices.as_slice())?;
+    let counts = no_counts(alloc, config.ios.len())?;
+    Ok((made, logs, counts))
+}
+
+// no device has done anything
+fn none_made(alloc: Global, n: usize) -> Result<Vec<usize>, AllocError>
     ensures { IfOk result (λ made. made.items ≡ replicate n 0) }
 {
     vec![in alloc; 0; n]
 }
 
-/// No device has pulsed. Each log has room for a pulse at each of the device's words.
-pub(crate) fn no_logs(
-    alloc: Global,
-    devices: &[Vec<DevWord>],
-) -> Result<Vec<Vec<(Pulse, Hit)>>, AllocError>
+// no device has pulsed; each log has room for a pulse at each of the device's words
+fn no_logs(alloc: Global, devices: &[Vec<DevWord>]) -> Result<Vec<Vec<(Pulse, Hit)>>, AllocError>
     ensures logs { IfOk result (λ logs. map (λ l. l.items) logs.items ≡ replicate (length devices.now) []) }
     ensures room { IfOk result (λ logs. map (λ l. vec_capacity l) logs.items ≡ map (λ words. length words.items) devices.now) }
 {
@@ -60,8 +75,8 @@ pub(crate) fn no_logs(
     Ok(logs)
 }
 
-/// No pin was collected.
-pub(crate) fn no_counts(alloc: Global, n: usize) -> Result<Vec<Vec<u32>>, AllocError>
+// no pin was collected
+fn no_counts(alloc: Global, n: usize) -> Result<Vec<Vec<u32>>, AllocError>
     ensures { IfOk result (λ counts. map (λ l. l.items) counts.items ≡ replicate n (replicate 24 0)) }
 {
     let mut counts = Vec::new(alloc);

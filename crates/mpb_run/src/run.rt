@@ -8,7 +8,7 @@ ghost use Rattle.mpb_spec.specs.PlainLatch.{pins_at};
 ghost use Rattle.mpb_spec.specs.Pulses.{logs_of, counts_of};
 ghost use Rattle.mpb_robin.specs.RoundRobin.{state_in, first_run, with_step, with_taken, with_counted, with_made, with_pulse, with_end, next_act, acts_of};
 
-use crate::lists::{count_pins, log_hit, no_counts, no_logs, none_made, one_more};
+use crate::lists::{count_pins, log_hit, nothing_kept, one_more};
 use crate::ran::Ran;
 use mpb_board::Board;
 use mpb_latch::PlainLatch;
@@ -49,13 +49,7 @@ impl Run {
     {
         let ios = board.config().ios.len();
         let devices = board.config().devices.len();
-        let Ok(made) = none_made(alloc, devices) else {
-            return Err(NoMemory);
-        };
-        let Ok(logs) = no_logs(alloc, board.config().devices.as_slice()) else {
-            return Err(NoMemory);
-        };
-        let Ok(counts) = no_counts(alloc, ios) else {
+        let Ok((made, logs, counts)) = nothing_kept(alloc, board.config()) else {
             return Err(NoMemory);
         };
         Ok(Run {

@@ -1,4 +1,5 @@
 pub mod ListLemmas
+pub mod PushLemmas
 pub mod FaultLemmas
 pub mod PinLemmas
 pub mod BootLemmas

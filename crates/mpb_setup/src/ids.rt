@@ -12,24 +12,28 @@ use std::alloc::{AllocError, Global};
 pub fn enabled_ids(alloc: Global, p: &Platform) -> Result<Vec<u8>, AllocError>
     ensures { IfOk result (λ ids. ids.items ≡ enabled_ids p.now) }
 {
-    p.processors
-        .as_slice()
-        .iter()
-        .filter(|e| e.is_enabled())
-        .map(|e| e.apic)
-        .collect(alloc)
+    let processors = p.processors.as_slice();
+    let mut ids = Vec::new(alloc);
+    for e in processors {
+        if e.is_enabled() {
+            ids.push(e.apic)?;
+        }
+    }
+    Ok(ids)
 }
 
 /// The ids of the enabled I/O APICs, by place.
 pub fn io_ids(alloc: Global, p: &Platform) -> Result<Vec<u8>, AllocError>
     ensures { IfOk result (λ ids. ids.items ≡ io_ids p.now) }
 {
-    p.ios
-        .as_slice()
-        .iter()
-        .filter(|io| io.is_enabled())
-        .map(|io| io.id)
-        .collect(alloc)
+    let ios = p.ios.as_slice();
+    let mut ids = Vec::new(alloc);
+    for io in ios {
+        if io.is_enabled() {
+            ids.push(io.id)?;
+        }
+    }
+    Ok(ids)
 }
 
 /// Whether the processor with this id is one of the list.

@@ -1,7 +1,7 @@
 -- Digits that are read one by one, in a number that is held at the end of u64.
 use Rattle.std.proofs.Common.{◌≡◌, ◌≢◌, ◌==◌, ℕ, ◌+◌, ◌*◌, ◌<◌, ◌≤◌, min, Bool, true, false, cond, ◌&&◌, List, [], ◌∷◌, length, drop, get_or, Option, Some, None, option_map, map, Result, Ok, Err, nat_le, refl, sym, ap, ◌∙◌, arith, inl, inr}
 use Rattle.std.proofs.Math.Nat.{mul-le-mul_left}
-use Rattle.std.proofs.lemmas.Bool.{cases_lt, false≢true, lt-ltb, le-ltb, ne_eqb}
+use Rattle.std.proofs.lemmas.Bool.{cases_lt, false≢true, lt-ltb, le-ltb, le-leb, lt-leb, ne_eqb}
 use Rattle.std.proofs.lemmas.List.{at_drop_more, at_drop_all, length-map}
 use Rattle.std.specs.List.{list_all}
 use Rattle.std.specs.Char.{is_digit, digit_value}
@@ -68,6 +68,24 @@ digits_after-end r n ds i over small =
 pub digits_after-start : (r : ℕ) (ds : List ℕ) → 0 < length ds → digits_after r 0 ds ≡ digits_number r ds
 digits_after-start r [] some = absurd (omega arith)
 digits_after-start r (d ∷ ds) some = refl
+
+-- a number that was read is judged by its limit, which is far below the end of u64
+pub number_within : (most n : ℕ) (o : Option ℕ) → most < 4294967296 → Some n ≡ option_map held o → n ≤ most → Ok n ≡ number_up_to most o
+number_within most n None small is le = cc
+number_within most n (Some m) small is le =
+    let read : n ≡ held m = cc in
+    let whole : m ≡ n = omega arith in
+    rw (whole, le-leb n most le) refl
+
+pub number_above : (most n : ℕ) (o : Option ℕ) → Some n ≡ option_map held o → most < n → Err why.Range ≡ number_up_to most o
+number_above most n None is above = cc
+number_above most n (Some m) is above =
+    let read : n ≡ held m = cc in
+    rw (lt-leb m most (omega arith)) refl
+
+pub no_number : (most : ℕ) (o : Option ℕ) → None ≡ option_map held o → Err why.Number ≡ number_up_to most o
+no_number most None is = refl
+no_number most (Some m) is = cc
 
 -- two numbers and their limits
 abbrev judged_two : Bool → Bool → ℕ → ℕ → Result (ℕ × ℕ) WordWhy

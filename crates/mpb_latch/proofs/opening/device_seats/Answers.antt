@@ -1,11 +1,36 @@
-use Rattle.std.proofs.Common.{◌++◌, ◌∷◌, [], List, map, take, get_or, sym, ap, ◌∙◌, arith}
+use Rattle.std.proofs.Common.{◌++◌, ◌∷◌, ◌+◌, ◌<◌, [], ℕ, List, Vec, Global, All, length, map, take, get_or, sym, ap, ◌∙◌, subst, arith}
 use Rattle.std.proofs.lemmas.List.{length-map}
 use Rattle.atomic_table.specs.Seated.{TableId}
 use Rattle.mpb_latch.specs.declared.view.DeviceView.{DeviceView}
 use Rattle.mpb_latch.specs.Seats.{DeviceSeat, fresh_device_seat}
 use Rattle.mpb_latch.specs.Rule.{fresh_device, no_device, shown_device, without_device}
-use Rattle.mpb_spec.proofs.Lists.{map_one_more, first_of_rest, rest_of_rest}
+use Rattle.mpb_spec.specs.declared.pulse.Pulse.{Pulse}
+use Rattle.mpb_spec.proofs.Lists.{map_one_more, first_of_rest, rest_of_rest, some_of_rest}
 use Rattle.mpb_latch.proofs.opening.device_seats.Goals as goal
+
+pub cut_device-seat-requires-clause-range : goal.cut_device-seat-requires-clause-range
+cut_device-seat-requires-clause-range c =
+    let plans = c.args.plans.now in
+    let i = c.loop-plan.plan-index in
+    let plan = c.plan-item.result in
+    let inv = c.loop-plan.invariant in
+    let t = c.loop-plan-test.true in
+    let first = ap (λ m. get_or m.0.devices 0 no_device) inv.1 ∙ first_of_rest (λ p. fresh_device p.items) plans i plan no_device t c.plan-item.is in
+    let here = subst (λ (x : Vec Pulse Global). All (λ p. (p.io + 1 < c.args.table.now.shared.table_id.words) × (p.pin < 24)) x.items) (sym c.plan-item.is) (c.requires.range i plan t) in
+    let words = ap (λ (z : TableId). z.words) (inv.0 ∙ c.requires.table.0) in
+    subst (λ (n : ℕ). All (λ p. (p.io + 1 < n) × (p.pin < 24)) (get_or c.loop-plan.all.me.0.devices 0 no_device).plan) (sym words)
+    (subst (λ (d : DeviceView). All (λ p. (p.io + 1 < c.args.table.now.shared.table_id.words) × (p.pin < 24)) d.plan) (sym first) here)
+
+pub cut_device-seat-requires-clause-fresh : goal.cut_device-seat-requires-clause-fresh
+cut_device-seat-requires-clause-fresh c =
+    let plans = c.args.plans.now in
+    let i = c.loop-plan.plan-index in
+    let inv = c.loop-plan.invariant in
+    let t = c.loop-plan-test.true in
+    let first = ap (λ m. get_or m.0.devices 0 no_device) inv.1 ∙ first_of_rest (λ p. fresh_device p.items) plans i c.plan-item.result no_device t c.plan-item.is in (
+      (let left = ap (λ m. length m.0.devices) inv.1 in let some = some_of_rest (λ p. fresh_device p.items) plans i t in omega arith),
+      ap (λ (d : DeviceView). d.log) first,
+    )
 
 pub loop-plan-preserved : goal.loop-plan-preserved
 loop-plan-preserved c =

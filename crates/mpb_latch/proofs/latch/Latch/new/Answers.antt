@@ -6,6 +6,9 @@ use Rattle.mpb_latch.specs.Rule.{fresh_device}
 use Rattle.mpb_spec.proofs.Lists.{map_map, sum_map}
 use Rattle.mpb_latch.proofs.latch.Latch.new.Goals as goal
 
+pub device_seats-requires-clause-range : goal.device_seats-requires-clause-range
+device_seats-requires-clause-range c = λ k d l j p m. (let here = c.requires.range.1 k d l j p m in let words = c.in_ok-table.ensures.key.2 in (omega arith, here.1))
+
 pub device_seats-requires-clause-all : goal.device_seats-requires-clause-all
 device_seats-requires-clause-all c =
     ap (λ m. m.0.devices) c.in_ok-table.ensures.seat.1
