@@ -1,19 +1,22 @@
 //! The run of a board by threads.
 
-ghost use Rattle.std.specs.Prelude.{◌≡◌, ◌<◌, [], ℕ, IfOk, length, slice_index, slice_index_or};
-ghost use Rattle.mpb_spec.specs.Configs.{IsStartableAt};
+ghost use Rattle.std.specs.Prelude.{◌≡◌, ◌<◌, ◌≤◌, [], ℕ, IfOk, map, length, slice_index, slice_index_or, vec_capacity};
+ghost use Rattle.mpb_spec.specs.Agents.{agents_of};
+ghost use Rattle.mpb_spec.specs.Configs.{IsConfig, IsStartableAt};
 ghost use Rattle.mpb_spec.specs.Journal.{IsComplete};
 ghost use Rattle.mpb_start_laws.specs.Starts.{IsStartedOnce};
-ghost use Rattle.mpb_spec.specs.Pulses.{HasCountsFor, logs_of, counts_of};
+ghost use Rattle.mpb_spec.specs.Pulses.{HasCountsFor, logs_of, counts_of, pulses_in};
 ghost use Rattle.mpb_robin.specs.Account.{AccountsForPulses, collected_count};
+ghost use Rattle.mpb_crew.specs.Workers.{fresh_worker};
 
+use crate::assembly::{Assembly, assembled};
 use crate::closing::closed;
 use crate::crew::run_each;
 use crate::gate::Gate;
-use crate::opening::{plans_of, room_for, words_of, workers_of};
-use mpb_board::{Board, agents};
-use mpb_bus::Bus;
-use mpb_latch::Latch;
+use crate::opening::room_for;
+use mpb_board::Board;
+use mpb_bus::BusSeat;
+use mpb_latch::{ColSeat, DevSeat};
 use mpb_run::Ran;
 use mpt_base::NoMemory;
 use std::alloc::Global;
@@ -40,14 +43,37 @@ pub fn threads<R: Threads + Wait + Sync, G: Gate + Sync>(
     // Each other processor is started once, at the page.
     ensures started { IfOk result (λ ran. (page : ℕ) → IsStartableAt page board.plan → IsStartedOnce page board.plan ran.board.journal) }
 {
-    let config = board.config();
-    let devices = words_of(alloc, config.devices.as_slice())?;
-    let plans = plans_of(alloc, devices.as_slice())?;
-    let agents = agents(alloc, config)?;
-    let (latch, devs, cols) = Latch::new(alloc, config.ios.len() as u8, plans.as_slice())?;
-    let (bus, seats) = Bus::new(alloc, board)?;
-    let mut workers = workers_of(alloc, &bus, &latch, agents.as_slice(), seats, cols, devs)?;
-    let (seats, cols, devs) = room_for(alloc, workers.len())?;
+    let assembly = assembled(alloc, board)?;
+    let room = room_for(alloc, assembly.workers.len())?;
+    Ok(run(rt, gate, assembly, room))
+}
+
+// runs all workers, and closes bus and latch with the seats that they give up, for which there is room
+fn run<R: Threads + Wait + Sync, G: Gate + Sync>(
+    rt: &R,
+    gate: &G,
+    assembly: Assembly,
+    room: (Vec<BusSeat>, Vec<ColSeat>, Vec<DevSeat>),
+) -> Ran
+    requires config { IsConfig assembly.bus.plan }
+    requires latch { (assembly.latch.ios ≡ length assembly.bus.plan.ios) × (assembly.latch.plans ≡ map pulses_in assembly.bus.plan.devices) }
+    requires words { map (λ words. words.items) assembly.devices.items ≡ assembly.bus.plan.devices }
+    requires workers { assembly.workers.items ≡ map (fresh_worker assembly.bus.bus assembly.latch.latch assembly.bus.plan) (agents_of assembly.bus.plan) }
+    requires empty { (room.0.items ≡ []) × (room.1.items ≡ []) × (room.2.items ≡ []) }
+    requires room { (length assembly.workers.items ≤ vec_capacity room.0) × (length assembly.workers.items ≤ vec_capacity room.1) × (length assembly.workers.items ≤ vec_capacity room.2) }
+    ensures plan { result.board.plan ≡ assembly.bus.plan }
+    ensures complete { IsComplete assembly.bus.plan result.board.journal }
+    ensures accounts { AccountsForPulses assembly.bus.plan result.board.journal (logs_of result.account) }
+    ensures shape { HasCountsFor (length assembly.bus.plan.ios) result.account }
+    ensures collected { (a pin : ℕ) → a < length assembly.bus.plan.ios → pin < 24 → slice_index (slice_index_or (counts_of result.account) a []) pin ≡ collected_count a pin result.board.journal }
+{
+    let Assembly {
+        bus,
+        latch,
+        devices,
+        mut workers,
+    } = assembly;
+    let (seats, cols, devs) = room;
     run_each(rt, gate, &bus, &latch, devices.as_slice(), &mut workers);
-    Ok(closed(bus, latch, workers, seats, cols, devs))
+    closed(bus, latch, workers, seats, cols, devs)
 }

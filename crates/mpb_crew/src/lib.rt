@@ -3,6 +3,7 @@
 #![tactic(auto)]
 
 mod answer;
+mod assembly;
 mod by_threads;
 mod closing;
 mod collectors;

@@ -1,6 +1,6 @@
 //! The verdict on a report.
 
-ghost use Rattle.std.specs.Prelude.{◌≡◌, ◌<◌, ◌^◌, length, IfOk};
+ghost use Rattle.std.specs.Prelude.{◌≡◌, ◌<◌, ◌^◌, [], length, IfOk};
 ghost use Rattle.mpb_spec.specs.Plan.{plan_size};
 ghost use Rattle.mpb_spec.specs.Journal.{IsComplete};
 ghost use Rattle.mpb_replay_laws.specs.Asked.{HasPulses, AllAccounted};
@@ -75,6 +75,21 @@ fn judge(board: &Board, report: &Report) -> Verdict
     }
 }
 
+// of a board in its opening state
+fn judge_entries(board: &mut Board, report: &Report) -> Verdict
+    requires opening { board.old.journal ≡ [] }
+    requires few { length report.now.entries < 2 ^ 32 }
+    ensures { IsVerdict board.old.plan report.now result }
+{
+    match play(board, report.entries.as_slice()) {
+        None => judge(board, report),
+        Some(bad) => Verdict::Bad {
+            entry: bad.entry,
+            why: bad.why,
+        },
+    }
+}
+
 /// Judges a report of any origin, of a board with this config: its entries are made again on the board, and its
 /// logs and the lines of the state are compared. The answer is the first verdict that applies: the first
 /// entry that is no step; the least agent that can still step; the least device whose log isn't its pulses;
@@ -89,11 +104,5 @@ pub fn replay(alloc: Global, config: Config, report: &Report) -> Result<Verdict,
         Ok(board) => board,
         Err(error) => return Err(error),
     };
-    match play(&mut board, report.entries.as_slice()) {
-        None => Ok(judge(&board, report)),
-        Some(bad) => Ok(Verdict::Bad {
-            entry: bad.entry,
-            why: bad.why,
-        }),
-    }
+    Ok(judge_entries(&mut board, report))
 }

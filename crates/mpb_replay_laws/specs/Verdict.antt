@@ -1,11 +1,9 @@
 -- The verdict on a report of any origin (this project's own).
 --     Applies c r v      the verdict applies to the report of a board of this plan
 --     IsVerdict c r v    it is the first that applies
-use Rattle.std.specs.Prelude.{◌<◌, ℕ, List, map}
+use Rattle.std.specs.Prelude.{◌<◌, ℕ, map}
 use Rattle.mpb_spec.specs.Plan.{Plan}
 use Rattle.mpb_spec.specs.Journal.{final_state_of}
-use Rattle.mpb_spec.specs.declared.pulse.Pulse.{Pulse}
-use Rattle.mpb_spec.specs.declared.pulse.Hit.{Hit}
 use Rattle.mpb_spec.specs.Pulses.{pulses_of, pulses_in}
 use Rattle.mpb_report_line.specs.declared.report.Report.{Report}
 use Rattle.mpb_replay_laws.specs.declared.verdict.Verdict.{Verdict}

@@ -1,15 +1,14 @@
 //! The lines of the entries of a journal.
 
-ghost use Rattle.std.specs.Prelude.{◌≡◌, ◌++◌, ◌∷◌, [], OnOk, codes};
+ghost use Rattle.std.specs.Prelude.{◌≡◌, ◌++◌, ◌∷◌, [], OnOk, codes, decimal};
 ghost use Rattle.std.specs.List.{concat, flat_map};
 ghost use Rattle.mpt_listing.specs.Listing.{hex};
 ghost use Rattle.mpb_report_spec.specs.Numbered.{numbered};
 ghost use Rattle.mpb_report_spec.specs.EntryLines.{agent_text, op_text, trigger_text, what_text, has_target, further_outcome, entry_line};
 
 use crate::digits::{digit, push_six, push_two};
-use crate::parts::push_parts;
 use mpb_board::{Agent, Entry, Op, Outcome, What};
-use mpt_listing::{Part, push_decimal, push_text};
+use mpt_listing::{push_decimal, push_hex, push_text};
 use std::alloc::AllocError;
 
 /// Writes the lines of the entries, numbered from 0.
@@ -42,22 +41,8 @@ fn push_agent(out: &mut Vec<u8>, agent: Agent) -> Result<(), AllocError>
 {
     match agent {
         Agent::Cpu(id) => push_cpu(out, id as u64),
-        Agent::Io(place) => push_parts(
-            out,
-            &[
-                Part::Text(b" io "),
-                Part::Decimal(place as u64),
-                Part::Text(b" "),
-            ],
-        ),
-        Agent::Dev(number) => push_parts(
-            out,
-            &[
-                Part::Text(b" dev "),
-                Part::Decimal(number as u64),
-                Part::Text(b" "),
-            ],
-        ),
+        Agent::Io(place) => push_place(out, b" io ", place as u64),
+        Agent::Dev(number) => push_place(out, b" dev ", number as u64),
     }
 }
 
@@ -95,51 +80,16 @@ fn push_op(out: &mut Vec<u8>, op: Op) -> Result<(), AllocError>
         Op::Tpr(priority) => push_named(out, b"tpr ", priority as u64),
         Op::Ldr(dest) => push_named(out, b"ldr ", dest as u64),
         Op::Dfr(model) => push_named(out, b"dfr ", model as u64),
-        Op::IoSel(place, index) => push_parts(
-            out,
-            &[
-                Part::Text(b"iosel "),
-                Part::Decimal(place as u64),
-                Part::Text(b" "),
-                Part::Hex(2, index as u64),
-            ],
-        ),
-        Op::IoWin(place, value) => push_parts(
-            out,
-            &[
-                Part::Text(b"iowin "),
-                Part::Decimal(place as u64),
-                Part::Text(b" "),
-                Part::Hex(8, value as u64),
-            ],
-        ),
-        Op::IoRead(place) => push_parts(
-            out,
-            &[Part::Text(b"ioread "), Part::Decimal(place as u64)],
-        ),
-        Op::Pause(time) => push_parts(out, &[Part::Text(b"pause "), Part::Decimal(time as u64)]),
+        Op::IoSel(place, index) => push_select(out, place as u64, index as u64),
+        Op::IoWin(place, value) => push_window(out, place as u64, value as u64),
+        Op::IoRead(place) => push_count(out, b"ioread ", place as u64),
+        Op::Pause(time) => push_count(out, b"pause ", time as u64),
         Op::Begin => push_text(out, b"begin"),
-        Op::High(place, pin) => push_parts(
-            out,
-            &[
-                Part::Text(b"high "),
-                Part::Decimal(place as u64),
-                Part::Text(b" "),
-                Part::Decimal(pin as u64),
-            ],
-        ),
-        Op::Low(place, pin) => push_parts(
-            out,
-            &[
-                Part::Text(b"low "),
-                Part::Decimal(place as u64),
-                Part::Text(b" "),
-                Part::Decimal(pin as u64),
-            ],
-        ),
+        Op::High(place, pin) => push_pin(out, b"high ", place as u64, pin as u64),
+        Op::Low(place, pin) => push_pin(out, b"low ", place as u64, pin as u64),
         Op::End => push_text(out, b"end"),
         Op::Collect(pins) => push_collect(out, pins as u64),
-        Op::Send(pin) => push_parts(out, &[Part::Text(b"send "), Part::Decimal(pin as u64)]),
+        Op::Send(pin) => push_count(out, b"send ", pin as u64),
         Op::Sweep => push_text(out, b"sweep"),
     }
 }
@@ -164,6 +114,46 @@ fn push_pair(out: &mut Vec<u8>, name: &[u8], one: u64, other: u64) -> Result<(),
         digit(other / 16),
         digit(other),
     ])
+}
+
+// a name and a number in decimal
+fn push_count(out: &mut Vec<u8>, name: &[u8], number: u64) -> Result<(), AllocError>
+    ensures { OnOk result (out.new.items ≡ out.old.items ++ concat (name.now ∷ decimal number ∷ [])) }
+{
+    push_text(out, name)?;
+    push_decimal(out, number)
+}
+
+// a name and a number in decimal, with a space behind it
+fn push_place(out: &mut Vec<u8>, name: &[u8], place: u64) -> Result<(), AllocError>
+    ensures { OnOk result (out.new.items ≡ out.old.items ++ concat (name.now ∷ decimal place ∷ codes " " ∷ [])) }
+{
+    push_count(out, name, place)?;
+    push_text(out, b" ")
+}
+
+// a name, and a pin of the I/O APIC at a place
+fn push_pin(out: &mut Vec<u8>, name: &[u8], place: u64, pin: u64) -> Result<(), AllocError>
+    ensures { OnOk result (out.new.items ≡ out.old.items ++ concat (name.now ∷ decimal place ∷ codes " " ∷ decimal pin ∷ [])) }
+{
+    push_place(out, name, place)?;
+    push_decimal(out, pin)
+}
+
+// the choice of a register of the I/O APIC at a place
+fn push_select(out: &mut Vec<u8>, place: u64, index: u64) -> Result<(), AllocError>
+    ensures { OnOk result (out.new.items ≡ out.old.items ++ concat (codes "iosel " ∷ decimal place ∷ codes " " ∷ hex 2 index ∷ [])) }
+{
+    push_place(out, b"iosel ", place)?;
+    push_two(out, index)
+}
+
+// a value for the register that is chosen there
+fn push_window(out: &mut Vec<u8>, place: u64, value: u64) -> Result<(), AllocError>
+    ensures { OnOk result (out.new.items ≡ out.old.items ++ concat (codes "iowin " ∷ decimal place ∷ codes " " ∷ hex 8 value ∷ [])) }
+{
+    push_place(out, b"iowin ", place)?;
+    push_hex(out, 8, value)
 }
 
 // a collection of pins
@@ -254,7 +244,7 @@ fn push_what(out: &mut Vec<u8>, what: What) -> Result<(), AllocError>
         What::Plain => push_text(out, b"plain"),
         What::Due => push_text(out, b"due"),
         What::Withdrawn => push_text(out, b"withdrawn"),
-        What::Read(value) => push_parts(out, &[Part::Text(b"read."), Part::Hex(8, value as u64)]),
+        What::Read(value) => push_read(out, value as u64),
         What::Pins(due, joined) => push_pins(out, due as u64, joined as u64),
     }
 }
@@ -265,6 +255,14 @@ fn push_ended(out: &mut Vec<u8>, vector: u64, level: bool) -> Result<(), AllocEr
 {
     push_named(out, b"ended.", vector)?;
     push_text(out, trigger_text(level))
+}
+
+// the value of a register
+fn push_read(out: &mut Vec<u8>, value: u64) -> Result<(), AllocError>
+    ensures { OnOk result (out.new.items ≡ out.old.items ++ concat (codes "read." ∷ hex 8 value ∷ [])) }
+{
+    push_text(out, b"read.")?;
+    push_hex(out, 8, value)
 }
 
 // the pins of a collection

@@ -32,19 +32,23 @@ fn read_cpu(alloc: Global, line: &[u8]) -> Result<Option<(CpuLine, &[u8])>, Allo
     let Some(((id, life, tpr), rest)) = read_head(line) else {
         return Ok(None);
     };
-    match read_registers(alloc, rest)? {
-        Some(((irr, isr, tmr), rest)) => Ok(Some((
-            CpuLine {
-                id,
-                life,
-                tpr,
-                irr,
-                isr,
-                tmr,
-            },
-            rest,
-        ))),
-        None => Ok(None),
+    match read_registers(alloc, rest) {
+        Ok(Some(read)) => {
+            let ((irr, isr, tmr), rest) = read;
+            Ok(Some((
+                CpuLine {
+                    id,
+                    life,
+                    tpr,
+                    irr,
+                    isr,
+                    tmr,
+                },
+                rest,
+            )))
+        }
+        Ok(None) => Ok(None),
+        Err(error) => Err(error),
     }
 }
 
@@ -53,10 +57,18 @@ fn read_cpu(alloc: Global, line: &[u8]) -> Result<Option<(CpuLine, &[u8])>, Allo
 fn read_head(line: &[u8]) -> Option<((u8, Life, u8), &[u8])>
     ensures { Gives (λ x. ((x.0.0, (x.0.1, x.0.2)), x.1.now)) result (cpu_head_in line.now) }
 {
-    let (id, rest) = read_u8_field(line, b"state cpu ")?;
-    let rest = read_part(rest, b" ")?;
-    let (life, rest) = read_life(rest)?;
-    let (tpr, rest) = read_u8_field(rest, b" tpr ")?;
+    let Some((id, rest)) = read_u8_field(line, b"state cpu ") else {
+        return None;
+    };
+    let Some(rest) = read_part(rest, b" ") else {
+        return None;
+    };
+    let Some((life, rest)) = read_life(rest) else {
+        return None;
+    };
+    let Some((tpr, rest)) = read_u8_field(rest, b" tpr ") else {
+        return None;
+    };
     Some(((id, life, tpr), rest))
 }
 
@@ -74,7 +86,9 @@ fn read_life(line: &[u8]) -> Option<(Life, &[u8])>
     if let Some(rest) = read_part(line, b"first") {
         return Some((Life::First, rest));
     }
-    let (page, rest) = read_u8_field(line, b"started.")?;
+    let Some((page, rest)) = read_u8_field(line, b"started.") else {
+        return None;
+    };
     Some((Life::Started(page), rest))
 }
 
@@ -89,14 +103,19 @@ fn read_registers(
     let Some(rest) = read_part(line, b" irr ") else {
         return Ok(None);
     };
-    let Some((irr, rest)) = read_vectors(alloc, rest, b" isr ")? else {
-        return Ok(None);
+    let (irr, rest) = match read_vectors(alloc, rest, b" isr ") {
+        Ok(Some(read)) => read,
+        Ok(None) => return Ok(None),
+        Err(error) => return Err(error),
     };
-    let Some((isr, rest)) = read_vectors(alloc, rest, b" tmr ")? else {
-        return Ok(None);
+    let (isr, rest) = match read_vectors(alloc, rest, b" tmr ") {
+        Ok(Some(read)) => read,
+        Ok(None) => return Ok(None),
+        Err(error) => return Err(error),
     };
-    match read_vectors(alloc, rest, b"\n")? {
-        Some((tmr, rest)) => Ok(Some(((irr, isr, tmr), rest))),
-        None => Ok(None),
+    match read_vectors(alloc, rest, b"\n") {
+        Ok(Some((tmr, rest))) => Ok(Some(((irr, isr, tmr), rest))),
+        Ok(None) => Ok(None),
+        Err(error) => Err(error),
     }
 }

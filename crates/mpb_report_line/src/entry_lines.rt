@@ -27,11 +27,21 @@ pub fn read_entry_line(text: &[u8], number: u32) -> Option<(Entry, &[u8])>
 fn read_entry(line: &[u8], number: u32) -> Option<(Entry, &[u8])>
     ensures { Gives (λ x. (x.0, x.1.now)) result (entry_in number line.now) }
 {
-    let rest = read_number(line, number, b" ")?;
-    let (agent, rest) = read_agent(rest)?;
-    let rest = read_part(rest, b" ")?;
-    let (op, rest) = read_op(rest)?;
-    let (outcomes, rest) = read_outcomes(rest)?;
+    let Some(rest) = read_number(line, number, b" ") else {
+        return None;
+    };
+    let Some((agent, rest)) = read_agent(rest) else {
+        return None;
+    };
+    let Some(rest) = read_part(rest, b" ") else {
+        return None;
+    };
+    let Some((op, rest)) = read_op(rest) else {
+        return None;
+    };
+    let Some((outcomes, rest)) = read_outcomes(rest) else {
+        return None;
+    };
     Some((
         Entry {
             agent,

@@ -35,14 +35,18 @@ pub fn read_io_line(text: &[u8], place: u32) -> Option<(IoLine, &[u8])>
 fn read_imcr(line: &[u8]) -> Option<(Imcr, &[u8])>
     ensures { Gives (λ x. (x.0, x.1.now)) result (imcr_in line.now) }
 {
-    let line = read_part(line, b"state imcr ")?;
+    let Some(line) = read_part(line, b"state imcr ") else {
+        return None;
+    };
     if let Some(rest) = read_part(line, b"none\n") {
         return Some((Imcr::Absent, rest));
     }
     if let Some(rest) = read_part(line, b"pic\n") {
         return Some((Imcr::Pic, rest));
     }
-    let rest = read_part(line, b"apic\n")?;
+    let Some(rest) = read_part(line, b"apic\n") else {
+        return None;
+    };
     Some((Imcr::Apic, rest))
 }
 
@@ -50,12 +54,24 @@ fn read_imcr(line: &[u8]) -> Option<(Imcr, &[u8])>
 fn read_io(line: &[u8], place: u32) -> Option<(IoLine, &[u8])>
     ensures { Gives (λ x. (x.0, x.1.now)) result (io_in place line.now) }
 {
-    let rest = read_part(line, b"state io ")?;
-    let rest = read_number(rest, place, b" line ")?;
-    let (line, rest) = read_field(rest, b"", 6)?;
-    let (due, rest) = read_field(rest, b" due ", 6)?;
-    let (remote, rest) = read_field(rest, b" remote ", 6)?;
-    let rest = read_end(rest)?;
+    let Some(rest) = read_part(line, b"state io ") else {
+        return None;
+    };
+    let Some(rest) = read_number(rest, place, b" line ") else {
+        return None;
+    };
+    let Some((line, rest)) = read_field(rest, b"", 6) else {
+        return None;
+    };
+    let Some((due, rest)) = read_field(rest, b" due ", 6) else {
+        return None;
+    };
+    let Some((remote, rest)) = read_field(rest, b" remote ", 6) else {
+        return None;
+    };
+    let Some(rest) = read_end(rest) else {
+        return None;
+    };
     Some((
         IoLine {
             line: line as u32,

@@ -43,9 +43,10 @@ fn read_log(
     let Some(rest) = read_number(rest, number, b" :") else {
         return Ok(None);
     };
-    match read_pulses(alloc, rest)? {
-        Some((pulses, rest)) => Ok(Some((Sequence::new(pulses), rest))),
-        None => Ok(None),
+    match read_pulses(alloc, rest) {
+        Ok(Some((pulses, rest))) => Ok(Some((Sequence::new(pulses), rest))),
+        Ok(None) => Ok(None),
+        Err(error) => Err(error),
     }
 }
 
@@ -58,7 +59,10 @@ fn read_pulses(alloc: Global, line: &[u8]) -> Result<Option<(Vec<(Pulse, Hit)>, 
     if let Some(rest) = read_part(line, b" none\n") {
         return Ok(Some((pulses, rest)));
     }
-    let rest = push_run(&mut pulses, line)?;
+    let rest = match push_run(&mut pulses, line) {
+        Ok(rest) => rest,
+        Err(error) => return Err(error),
+    };
     let Some(rest) = read_end(rest) else {
         return Ok(None);
     };
@@ -90,11 +94,21 @@ fn push_run<'a>(pulses: &mut Vec<(Pulse, Hit)>, line: &'a [u8]) -> Result<&'a [u
 fn read_pulse(line: &[u8]) -> Option<((Pulse, Hit), &[u8])>
     ensures { Gives (λ x. ((x.0.0, x.0.1), x.1.now)) result (pulse_in line.now) }
 {
-    let rest = read_part(line, b" ")?;
-    let (io, rest) = read_place(rest)?;
-    let rest = read_part(rest, b".")?;
-    let (pin, rest) = read_pin(rest, b"=")?;
-    let (hit, rest) = read_hit(rest)?;
+    let Some(rest) = read_part(line, b" ") else {
+        return None;
+    };
+    let Some((io, rest)) = read_place(rest) else {
+        return None;
+    };
+    let Some(rest) = read_part(rest, b".") else {
+        return None;
+    };
+    let Some((pin, rest)) = read_pin(rest, b"=") else {
+        return None;
+    };
+    let Some((hit, rest)) = read_hit(rest) else {
+        return None;
+    };
     Some(((Pulse { io, pin }, hit), rest))
 }
 
@@ -106,6 +120,8 @@ fn read_hit(line: &[u8]) -> Option<(Hit, &[u8])>
     if let Some(rest) = read_part(line, b"new") {
         return Some((Hit::New, rest));
     }
-    let rest = read_part(line, b"merged")?;
+    let Some(rest) = read_part(line, b"merged") else {
+        return None;
+    };
     Some((Hit::Merged, rest))
 }

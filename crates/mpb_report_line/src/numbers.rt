@@ -26,9 +26,15 @@ pub fn read_entry_count_line(text: &[u8]) -> Option<(u64, &[u8])>
 fn read_entry_count(line: &[u8]) -> Option<(u64, &[u8])>
     ensures { Gives (λ x. (x.0, x.1.now)) result (entry_count_in line.now) }
 {
-    let rest = read_part(line, b"entries ")?;
-    let (number, rest) = read_decimal(rest)?;
-    let rest = read_end(rest)?;
+    let Some(rest) = read_part(line, b"entries ") else {
+        return None;
+    };
+    let Some((number, rest)) = read_decimal(rest) else {
+        return None;
+    };
+    let Some(rest) = read_end(rest) else {
+        return None;
+    };
     Some((number, rest))
 }
 
@@ -38,7 +44,9 @@ fn read_decimal_digit(line: &[u8]) -> Option<(u8, &[u8])>
     ensures value { Gives (λ x. (x.0, x.1.now)) result (decimal_digit_in line.now) }
     ensures bound { IfSome result (λ x. x.0 < 10) }
 {
-    let (first, rest) = line.split_first()?;
+    let Some((first, rest)) = line.split_first() else {
+        return None;
+    };
     match *first {
         b'0'..=b'9' => Some((*first - b'0', rest)),
         _ => None,
@@ -63,7 +71,9 @@ fn read_more_digits(value: u64, line: &[u8]) -> (u64, &[u8])
 fn read_decimal(line: &[u8]) -> Option<(u64, &[u8])>
     ensures { Gives (λ x. (x.0, x.1.now)) result (held_in line.now) }
 {
-    let (first, rest) = line.split_first()?;
+    let Some((first, rest)) = line.split_first() else {
+        return None;
+    };
     match *first {
         b'0' => Some((0, rest)),
         b'1'..=b'9' => {
@@ -79,8 +89,12 @@ pub(crate) fn read_up_to<'a>(line: &'a [u8], most: u32, stop: &[u8]) -> Option<(
     ensures value { Gives (λ x. (x.0, x.1.now)) result (up_to_in most stop.now line.now) }
     ensures bound { IfSome result (λ x. x.0 ≤ most) }
 {
-    let (number, rest) = read_decimal(line)?;
-    let rest = read_part(rest, stop)?;
+    let Some((number, rest)) = read_decimal(line) else {
+        return None;
+    };
+    let Some(rest) = read_part(rest, stop) else {
+        return None;
+    };
     if number <= u64::from(most) {
         Some((number as u32, rest))
     } else {
@@ -92,7 +106,9 @@ pub(crate) fn read_up_to<'a>(line: &'a [u8], most: u32, stop: &[u8]) -> Option<(
 pub(crate) fn read_pin<'a>(line: &'a [u8], stop: &[u8]) -> Option<(u8, &'a [u8])>
     ensures { Gives (λ x. (x.0, x.1.now)) result (up_to_in 23 stop.now line.now) }
 {
-    let (pin, rest) = read_up_to(line, LAST_PIN, stop)?;
+    let Some((pin, rest)) = read_up_to(line, LAST_PIN, stop) else {
+        return None;
+    };
     Some((pin as u8, rest))
 }
 
@@ -109,7 +125,9 @@ pub(crate) fn read_number<'a>(line: &'a [u8], number: u32, stop: &[u8]) -> Optio
 fn read_number_found<'a>(line: &'a [u8], number: u32, stop: &[u8]) -> Option<&'a [u8]>
     ensures { Gives (λ rest. rest.now) result (number_in number stop.now line.now) }
 {
-    let (found, rest) = read_up_to(line, number, stop)?;
+    let Some((found, rest)) = read_up_to(line, number, stop) else {
+        return None;
+    };
     if found == number { Some(rest) } else { None }
 }
 
@@ -118,7 +136,9 @@ fn read_number_found<'a>(line: &'a [u8], number: u32, stop: &[u8]) -> Option<&'a
 pub(crate) fn read_place(line: &[u8]) -> Option<(u8, &[u8])>
     ensures { Gives (λ x. (x.0, x.1.now)) result (place_in line.now) }
 {
-    let (first, rest) = line.split_first()?;
+    let Some((first, rest)) = line.split_first() else {
+        return None;
+    };
     match *first {
         b'0'..=b'3' => Some((*first - b'0', rest)),
         _ => None,

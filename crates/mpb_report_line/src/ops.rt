@@ -20,7 +20,9 @@ pub(crate) fn read_agent(line: &[u8]) -> Option<(Agent, &[u8])>
     if let Some((place, rest)) = read_place_field(line, b"io ") {
         return Some((Agent::Io(place), rest));
     }
-    let (number, rest) = read_place_field(line, b"dev ")?;
+    let Some((number, rest)) = read_place_field(line, b"dev ") else {
+        return None;
+    };
     Some((Agent::Dev(number), rest))
 }
 
@@ -41,7 +43,9 @@ pub(crate) fn read_op(line: &[u8]) -> Option<(Op, &[u8])>
     if let Some((op, rest)) = read_pin_op(line) {
         return Some((op, rest));
     }
-    let (op, rest) = read_logical_op(line)?;
+    let Some((op, rest)) = read_logical_op(line) else {
+        return None;
+    };
     Some((op, rest))
 }
 
@@ -68,7 +72,9 @@ fn read_bare_op(line: &[u8]) -> Option<(Op, &[u8])>
     if let Some(rest) = read_part(line, b"end :") {
         return Some((Op::End, rest));
     }
-    let rest = read_part(line, b"sweep :")?;
+    let Some(rest) = read_part(line, b"sweep :") else {
+        return None;
+    };
     Some((Op::Sweep, rest))
 }
 
@@ -89,7 +95,9 @@ fn read_byte_op(line: &[u8]) -> Option<(Op, &[u8])>
     if let Some((id, rest)) = read_byte_word(line, b"nmi ") {
         return Some((Op::Nmi(id), rest));
     }
-    let (priority, rest) = read_byte_word(line, b"tpr ")?;
+    let Some((priority, rest)) = read_byte_word(line, b"tpr ") else {
+        return None;
+    };
     Some((Op::Tpr(priority), rest))
 }
 
@@ -107,7 +115,9 @@ fn read_two_op(line: &[u8]) -> Option<(Op, &[u8])>
     if let Some(((place, index), rest)) = read_register_word(line, b"iosel ") {
         return Some((Op::IoSel(place, index), rest));
     }
-    let ((place, value), rest) = read_value_word(line, b"iowin ")?;
+    let Some(((place, value), rest)) = read_value_word(line, b"iowin ") else {
+        return None;
+    };
     Some((Op::IoWin(place, value), rest))
 }
 
@@ -131,7 +141,9 @@ fn read_pin_op(line: &[u8]) -> Option<(Op, &[u8])>
     if let Some((pins, rest)) = read_collect(line) {
         return Some((Op::Collect(pins), rest));
     }
-    let (time, rest) = read_pause(line)?;
+    let Some((time, rest)) = read_pause(line) else {
+        return None;
+    };
     Some((Op::Pause(time), rest))
 }
 
@@ -149,14 +161,18 @@ fn read_logical_op(line: &[u8]) -> Option<(Op, &[u8])>
     if let Some(rest) = read_part(line, b"dfr 00 :") {
         return Some((Op::Dfr(0), rest));
     }
-    let rest = read_part(line, b"dfr 0F :")?;
+    let Some(rest) = read_part(line, b"dfr 0F :") else {
+        return None;
+    };
     Some((Op::Dfr(15), rest))
 }
 
 fn read_place_field<'a>(line: &'a [u8], word: &[u8]) -> Option<(u8, &'a [u8])>
     ensures { Gives (λ x. (x.0, x.1.now)) result (after word.now place_in line.now) }
 {
-    let rest = read_part(line, word)?;
+    let Some(rest) = read_part(line, word) else {
+        return None;
+    };
     read_place(rest)
 }
 
@@ -164,8 +180,12 @@ fn read_place_field<'a>(line: &'a [u8], word: &[u8]) -> Option<(u8, &'a [u8])>
 fn read_byte_word<'a>(line: &'a [u8], word: &[u8]) -> Option<(u8, &'a [u8])>
     ensures { Gives (λ x. (x.0, x.1.now)) result (byte_word_in word.now line.now) }
 {
-    let (byte, rest) = read_u8_field(line, word)?;
-    let rest = read_part(rest, b" :")?;
+    let Some((byte, rest)) = read_u8_field(line, word) else {
+        return None;
+    };
+    let Some(rest) = read_part(rest, b" :") else {
+        return None;
+    };
     Some((byte, rest))
 }
 
@@ -173,9 +193,15 @@ fn read_byte_word<'a>(line: &'a [u8], word: &[u8]) -> Option<(u8, &'a [u8])>
 fn read_bytes_word<'a>(line: &'a [u8], word: &[u8]) -> Option<((u8, u8), &'a [u8])>
     ensures { Gives (λ x. ((x.0.0, x.0.1), x.1.now)) result (bytes_word_in word.now line.now) }
 {
-    let (first, rest) = read_u8_field(line, word)?;
-    let (second, rest) = read_u8_field(rest, b" ")?;
-    let rest = read_part(rest, b" :")?;
+    let Some((first, rest)) = read_u8_field(line, word) else {
+        return None;
+    };
+    let Some((second, rest)) = read_u8_field(rest, b" ") else {
+        return None;
+    };
+    let Some(rest) = read_part(rest, b" :") else {
+        return None;
+    };
     Some(((first, second), rest))
 }
 
@@ -183,9 +209,15 @@ fn read_bytes_word<'a>(line: &'a [u8], word: &[u8]) -> Option<((u8, u8), &'a [u8
 fn read_register_word<'a>(line: &'a [u8], word: &[u8]) -> Option<((u8, u8), &'a [u8])>
     ensures { Gives (λ x. ((x.0.0, x.0.1), x.1.now)) result (place_word_in word.now 2 line.now) }
 {
-    let (place, rest) = read_place_field(line, word)?;
-    let (register, rest) = read_u8_field(rest, b" ")?;
-    let rest = read_part(rest, b" :")?;
+    let Some((place, rest)) = read_place_field(line, word) else {
+        return None;
+    };
+    let Some((register, rest)) = read_u8_field(rest, b" ") else {
+        return None;
+    };
+    let Some(rest) = read_part(rest, b" :") else {
+        return None;
+    };
     Some(((place, register), rest))
 }
 
@@ -193,9 +225,15 @@ fn read_register_word<'a>(line: &'a [u8], word: &[u8]) -> Option<((u8, u8), &'a 
 fn read_value_word<'a>(line: &'a [u8], word: &[u8]) -> Option<((u8, u32), &'a [u8])>
     ensures { Gives (λ x. ((x.0.0, x.0.1), x.1.now)) result (place_word_in word.now 8 line.now) }
 {
-    let (place, rest) = read_place_field(line, word)?;
-    let (value, rest) = read_u32_field(rest, b" ")?;
-    let rest = read_part(rest, b" :")?;
+    let Some((place, rest)) = read_place_field(line, word) else {
+        return None;
+    };
+    let Some((value, rest)) = read_u32_field(rest, b" ") else {
+        return None;
+    };
+    let Some(rest) = read_part(rest, b" :") else {
+        return None;
+    };
     Some(((place, value), rest))
 }
 
@@ -203,38 +241,56 @@ fn read_value_word<'a>(line: &'a [u8], word: &[u8]) -> Option<((u8, u32), &'a [u
 fn read_pin_word<'a>(line: &'a [u8], word: &[u8]) -> Option<((u8, u8), &'a [u8])>
     ensures { Gives (λ x. ((x.0.0, x.0.1), x.1.now)) result (pin_word_in word.now line.now) }
 {
-    let (place, rest) = read_place_field(line, word)?;
-    let rest = read_part(rest, b" ")?;
-    let (pin, rest) = read_pin(rest, b" :")?;
+    let Some((place, rest)) = read_place_field(line, word) else {
+        return None;
+    };
+    let Some(rest) = read_part(rest, b" ") else {
+        return None;
+    };
+    let Some((pin, rest)) = read_pin(rest, b" :") else {
+        return None;
+    };
     Some(((place, pin), rest))
 }
 
 fn read_send(line: &[u8]) -> Option<(u8, &[u8])>
     ensures { Gives (λ x. (x.0, x.1.now)) result (after (codes "send ") (up_to_in 23 colon) line.now) }
 {
-    let rest = read_part(line, b"send ")?;
+    let Some(rest) = read_part(line, b"send ") else {
+        return None;
+    };
     read_pin(rest, b" :")
 }
 
 fn read_io_read(line: &[u8]) -> Option<(u8, &[u8])>
     ensures { Gives (λ x. (x.0, x.1.now)) result (before (after (codes "ioread ") place_in) colon line.now) }
 {
-    let (place, rest) = read_place_field(line, b"ioread ")?;
-    let rest = read_part(rest, b" :")?;
+    let Some((place, rest)) = read_place_field(line, b"ioread ") else {
+        return None;
+    };
+    let Some(rest) = read_part(rest, b" :") else {
+        return None;
+    };
     Some((place, rest))
 }
 
 fn read_collect(line: &[u8]) -> Option<(u32, &[u8])>
     ensures { Gives (λ x. (x.0, x.1.now)) result (before (field_in (codes "collect ") 6) colon line.now) }
 {
-    let (pins, rest) = read_field(line, b"collect ", 6)?;
-    let rest = read_part(rest, b" :")?;
+    let Some((pins, rest)) = read_field(line, b"collect ", 6) else {
+        return None;
+    };
+    let Some(rest) = read_part(rest, b" :") else {
+        return None;
+    };
     Some((pins as u32, rest))
 }
 
 fn read_pause(line: &[u8]) -> Option<(u32, &[u8])>
     ensures { Gives (λ x. (x.0, x.1.now)) result (after (codes "pause ") (up_to_in 4294967295 colon) line.now) }
 {
-    let rest = read_part(line, b"pause ")?;
+    let Some(rest) = read_part(line, b"pause ") else {
+        return None;
+    };
     read_up_to(rest, u32::MAX, b" :")
 }

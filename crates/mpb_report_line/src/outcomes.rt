@@ -15,7 +15,9 @@ pub(crate) fn read_outcomes(line: &[u8]) -> Option<(ArrayVec<Outcome, 8>, &[u8])
     ensures { Gives (λ x. (x.0.items, x.1.now)) result (outcomes_in line.now) }
 {
     let (outcomes, rest) = read_run(line);
-    let rest = read_end(rest)?;
+    let Some(rest) = read_end(rest) else {
+        return None;
+    };
     if outcomes.is_empty() {
         None
     } else {
@@ -45,11 +47,15 @@ fn read_run(line: &[u8]) -> (ArrayVec<Outcome, 8>, &[u8])
 fn read_outcome(line: &[u8]) -> Option<(Outcome, &[u8])>
     ensures { Gives (λ x. (x.0, x.1.now)) result (outcome_in line.now) }
 {
-    let line = read_part(line, b" ")?;
+    let Some(line) = read_part(line, b" ") else {
+        return None;
+    };
     if let Some(((at, what), rest)) = read_at_target(line) {
         return Some((Outcome { at, what }, rest));
     }
-    let (what, rest) = read_bare_what(line)?;
+    let Some((what, rest)) = read_bare_what(line) else {
+        return None;
+    };
     Some((Outcome { at: 0, what }, rest))
 }
 
@@ -57,9 +63,15 @@ fn read_at_target(line: &[u8]) -> Option<((u8, What), &[u8])>
     ensures { Gives (λ x. ((x.0.0, x.0.1), x.1.now)) result
         (both (before (hex_in 2) (codes "=")) target_what_in line.now) }
 {
-    let (at, rest) = read_byte(line)?;
-    let rest = read_part(rest, b"=")?;
-    let (what, rest) = read_target_what(rest)?;
+    let Some((at, rest)) = read_byte(line) else {
+        return None;
+    };
+    let Some(rest) = read_part(rest, b"=") else {
+        return None;
+    };
+    let Some((what, rest)) = read_target_what(rest) else {
+        return None;
+    };
     Some(((at, what), rest))
 }
 
@@ -77,7 +89,9 @@ fn read_target_what(line: &[u8]) -> Option<(What, &[u8])>
     if let Some((page, rest)) = read_u8_field(line, b"runs.") {
         return Some((What::Runs(page), rest));
     }
-    let rest = read_part(line, b"runs.first")?;
+    let Some(rest) = read_part(line, b"runs.first") else {
+        return None;
+    };
     Some((What::RunsFirst, rest))
 }
 
@@ -109,7 +123,9 @@ fn read_target_word(line: &[u8]) -> Option<(What, &[u8])>
     if let Some(rest) = read_part(line, b"nmi") {
         return Some((What::Nmi, rest));
     }
-    let rest = read_part(line, b"passed")?;
+    let Some(rest) = read_part(line, b"passed") else {
+        return None;
+    };
     Some((What::Passed, rest))
 }
 
@@ -130,7 +146,9 @@ fn read_bare_what(line: &[u8]) -> Option<(What, &[u8])>
     if let Some(((vector, level), rest)) = read_ended(line) {
         return Some((What::Ended(vector, level), rest));
     }
-    let ((due, joined), rest) = read_pins(line)?;
+    let Some(((due, joined), rest)) = read_pins(line) else {
+        return None;
+    };
     Some((What::Pins(due, joined), rest))
 }
 
@@ -153,7 +171,9 @@ fn read_bare_word(line: &[u8]) -> Option<(What, &[u8])>
     if let Some(rest) = read_part(line, b"due") {
         return Some((What::Due, rest));
     }
-    let rest = read_part(line, b"withdrawn")?;
+    let Some(rest) = read_part(line, b"withdrawn") else {
+        return None;
+    };
     Some((What::Withdrawn, rest))
 }
 
@@ -165,7 +185,9 @@ fn read_trigger(line: &[u8]) -> Option<(bool, &[u8])>
     if let Some(rest) = read_part(line, b"edge") {
         return Some((false, rest));
     }
-    let rest = read_part(line, b"level")?;
+    let Some(rest) = read_part(line, b"level") else {
+        return None;
+    };
     Some((true, rest))
 }
 
@@ -173,9 +195,15 @@ fn read_ended(line: &[u8]) -> Option<((u8, bool), &[u8])>
     ensures { Gives (λ x. ((x.0.0, x.0.1), x.1.now)) result
         (both (field_in (codes "ended.") 2) (after (codes ".") trigger_in) line.now) }
 {
-    let (vector, rest) = read_u8_field(line, b"ended.")?;
-    let rest = read_part(rest, b".")?;
-    let (level, rest) = read_trigger(rest)?;
+    let Some((vector, rest)) = read_u8_field(line, b"ended.") else {
+        return None;
+    };
+    let Some(rest) = read_part(rest, b".") else {
+        return None;
+    };
+    let Some((level, rest)) = read_trigger(rest) else {
+        return None;
+    };
     Some(((vector, level), rest))
 }
 
@@ -183,7 +211,11 @@ fn read_pins(line: &[u8]) -> Option<((u32, u32), &[u8])>
     ensures { Gives (λ x. ((x.0.0, x.0.1), x.1.now)) result
         (both (field_in (codes "pins.") 6) (field_in (codes ".") 6) line.now) }
 {
-    let (due, rest) = read_field(line, b"pins.", 6)?;
-    let (joined, rest) = read_field(rest, b".", 6)?;
+    let Some((due, rest)) = read_field(line, b"pins.", 6) else {
+        return None;
+    };
+    let Some((joined, rest)) = read_field(rest, b".", 6) else {
+        return None;
+    };
     Some(((due as u32, joined as u32), rest))
 }

@@ -21,15 +21,16 @@ pub(crate) fn read_vectors<'a>(
     if let Some(rest) = read_none(line, stop) {
         return Ok(Some((Sequence::new(Vec::new(alloc)), rest)));
     }
-    match read_some(alloc, line, stop)? {
-        Some((vectors, rest)) => {
+    match read_some(alloc, line, stop) {
+        Ok(Some((vectors, rest))) => {
             if ascend(vectors.as_slice()) {
                 Ok(Some((Sequence::new(vectors), rest)))
             } else {
                 Ok(None)
             }
         }
-        None => Ok(None),
+        Ok(None) => Ok(None),
+        Err(error) => Err(error),
     }
 }
 
@@ -37,7 +38,9 @@ pub(crate) fn read_vectors<'a>(
 fn read_none<'a>(line: &'a [u8], stop: &[u8]) -> Option<&'a [u8]>
     ensures { Gives (λ rest. ([], rest.now)) result (no_vectors_in stop.now line.now) }
 {
-    let rest = read_part(line, b"-")?;
+    let Some(rest) = read_part(line, b"-") else {
+        return None;
+    };
     read_part(rest, stop)
 }
 
@@ -55,7 +58,10 @@ fn read_some<'a>(
     };
     let mut vectors = Vec::new(alloc);
     vectors.push(first)?;
-    let rest = push_run(&mut vectors, rest)?;
+    let rest = match push_run(&mut vectors, rest) {
+        Ok(rest) => rest,
+        Err(error) => return Err(error),
+    };
     match read_part(rest, stop) {
         Some(rest) => Ok(Some((vectors, rest))),
         None => Ok(None),

@@ -2,7 +2,7 @@
 
 ghost use Rattle.std.specs.Prelude.{◌≡◌, ◌<◌, ◌≤◌, ◌^◌, ◌++◌, None, count_by, IfOk, OnOk, length, sum_by};
 ghost use Rattle.std.specs.List.{concat};
-ghost use Rattle.mpt_route.specs.Platform.{platform_of};
+ghost use Rattle.mpt_route.specs.Platform.{platform_of, IsSmallPlatform};
 ghost use Rattle.mpb_spec.specs.Pulses.{logs_of};
 ghost use Rattle.mpb_robin.specs.RoundRobin.{IsRoundRobinOf};
 ghost use Rattle.mpb_spec.specs.Plan.{plan_size};
@@ -16,7 +16,6 @@ use crate::tally::Tally;
 use mpb_board::Board;
 use mpb_drill::{drill_script, drill_tables, drills_have_boards};
 use mpb_run::{Ran, round_robin};
-use mpb_script::Script;
 use mpb_setup::config;
 use mpb_spec::{BoardError, Config};
 use mpt_base::NoMemory;
@@ -30,8 +29,20 @@ pub fn drill_summary(alloc: Global, n: u32) -> Result<Vec<u8>, NoMemory>
     requires { n < 10000 }
     ensures summary { IfOk result (λ text. IsSummaryOf n text.items) }
 {
-    let (config, routes) = board_and_routes(alloc, n)?;
-    let ran = ran(alloc, config)?;
+    let Ok((config, routes)) = board_and_routes(alloc, n) else {
+        return Err(NoMemory);
+    };
+    let Ok(ran) = ran(alloc, config) else {
+        return Err(NoMemory);
+    };
+    counted(alloc, n, routes, &ran)
+}
+
+// the text of a run of its board
+fn counted(alloc: Global, n: u32, routes: u64, ran: &Ran) -> Result<Vec<u8>, NoMemory>
+    requires few { sum_by length (logs_of ran.now.account) < 2 ^ 32 }
+    ensures text { IfOk result (λ text. text.items ≡ summary_of n routes (tally_of ran.now.board.journal (logs_of ran.now.account))) }
+{
     let tally = tally_of(&ran.board, &ran.account);
     match text(alloc, n, routes, tally) {
         Ok(text) => Ok(text),
@@ -46,23 +57,41 @@ fn board_and_routes(alloc: Global, n: u32) -> Result<(Config, u64), NoMemory>
     ensures small { IfOk result (λ x. plan_size x.0 < 2 ^ 32) }
     ensures routes { IfOk result (λ x. x.1 ≡ count_by is_routed (drill_routes n)) }
 {
-    let (platform, answers) = platform_and_routes(alloc, n)?;
-    let script = drill_script(alloc, n)?;
-    let config = board_of(alloc, n, &platform, answers.as_slice(), &script)?;
-    Ok((config, routed_in(answers.as_slice())))
+    let Ok(platform) = drill_platform(alloc, n) else {
+        return Err(NoMemory);
+    };
+    routed_board(alloc, n, &platform)
 }
 
-// the platform of its tables, and its routes
-fn platform_and_routes(alloc: Global, n: u32) -> Result<(Platform, Vec<Answer>), NoMemory>
+// the platform of its tables
+fn drill_platform(alloc: Global, n: u32) -> Result<Platform, NoMemory>
     requires { n < 10000 }
-    ensures platform { IfOk result (λ x. x.0 ≡ platform_of (drill_tables n)) }
-    ensures routes { IfOk result (λ x. x.1.items ≡ drill_routes n) }
+    ensures platform { IfOk result (λ p. p ≡ platform_of (drill_tables n)) }
+    ensures small { IfOk result (λ p. IsSmallPlatform p) }
 {
     drills_have_boards();
-    let tables = drill_tables(alloc, n)?;
-    let platform = platform_of(alloc, &tables)?;
-    let answers = routes(alloc, &platform, 0)?;
-    Ok((platform, answers))
+    let Ok(tables) = drill_tables(alloc, n) else {
+        return Err(NoMemory);
+    };
+    platform_of(alloc, &tables)
+}
+
+// the same on its platform
+fn routed_board(alloc: Global, n: u32, platform: &Platform) -> Result<(Config, u64), NoMemory>
+    requires number { n < 10000 }
+    requires platform { platform.now ≡ platform_of (drill_tables n) }
+    requires small { IsSmallPlatform platform.now }
+    ensures board { IfOk result (λ x. x.0 ≡ drill_board n) }
+    ensures small { IfOk result (λ x. plan_size x.0 < 2 ^ 32) }
+    ensures routes { IfOk result (λ x. x.1 ≡ count_by is_routed (drill_routes n)) }
+{
+    let Ok(answers) = routes(alloc, platform, 0) else {
+        return Err(NoMemory);
+    };
+    match board_of(alloc, n, platform, answers.as_slice()) {
+        Ok(config) => Ok((config, routed_in(answers.as_slice()))),
+        Err(error) => Err(error),
+    }
 }
 
 // the config of its board; nothing speaks against it
@@ -71,16 +100,18 @@ fn board_of(
     n: u32,
     platform: &Platform,
     answers: &[Answer],
-    script: &Script,
 ) -> Result<Config, NoMemory>
+    requires number { n < 10000 }
     requires platform { platform.now ≡ platform_of (drill_tables n) }
     requires answers { answers.now ≡ drill_routes n }
-    requires script { script.now ≡ drill_script n }
     ensures board { IfOk result (λ c. c ≡ drill_board n) }
     ensures small { IfOk result (λ c. plan_size c < 2 ^ 32) }
 {
     drills_have_boards();
-    match config(alloc, platform, answers, script) {
+    let Ok(script) = drill_script(alloc, n) else {
+        return Err(NoMemory);
+    };
+    match config(alloc, platform, answers, &script) {
         Ok(config) => Ok(config),
         Err(error) => Err(no_memory(error)),
     }

@@ -6,9 +6,9 @@ use Rattle.mpb_tally.proofs.CountLemmas.{no_refusal}
 use Rattle.mpb_tally.proofs.summary.board_of.Goals as goal
 
 pub config-requires-clause-values : goal.config-requires-clause-values
-config-requires-clause-values c = subst (λ (s : Script). HasScriptValues s) (sym c.requires.script) (c.drills_have_boards.ensures.values c.args.n)
+config-requires-clause-values c = subst (λ (s : Script). HasScriptValues s) (sym c.in-Ok.ensures.script) (c.drills_have_boards.ensures.values c.args.n)
 
 pub no_memory-requires : goal.no_memory-requires
 no_memory-requires c =
-    no_refusal c.in-Err.error (board_config_of c.args.platform.now c.args.answers.now c.args.script.now)
-    (c.in-Err.ensures.only_config (rw (c.requires.platform, c.requires.script) (c.drills_have_boards.ensures.no_fault c.args.n)))
+    no_refusal c.in-Err.error (board_config_of c.args.platform.now c.args.answers.now c.in-Ok.script)
+    (c.in-Err.ensures.only_config (rw (c.requires.platform, c.in-Ok.ensures.script) (c.drills_have_boards.ensures.no_fault c.args.n)))

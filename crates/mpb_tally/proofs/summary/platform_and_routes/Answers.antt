@@ -1,7 +1,0 @@
-use Rattle.std.proofs.Common.{sym, subst}
-use Rattle.mpt_spec.specs.declared.tables.Tables.{Tables}
-use Rattle.mpt_spec.specs.Canonical.{IsWellFormed}
-use Rattle.mpb_tally.proofs.summary.platform_and_routes.Goals as goal
-
-pub platform_of-requires : goal.platform_of-requires
-platform_of-requires c = subst (λ (t : Tables). IsWellFormed t) (sym c.in_ok-tables.ensures.tables) (c.drills_have_boards.ensures.fits c.args.n).well_formed
