@@ -1,3 +1,5 @@
+pub mod AppendLemmas
 pub mod Digits
 pub mod FilesByName
 pub mod SealLemmas
+pub mod WrittenBack

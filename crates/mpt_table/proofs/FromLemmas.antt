@@ -1,15 +1,18 @@
 -- What a window says of the image in a file, where the file is told.
-use Rattle.std.proofs.Common.{◌≡◌, ℕ, ◌+◌, ◌-◌, ◌%◌, ◌≤◌, List, [], ◌++◌, length, sym, ap, ◌∙◌, subst, inl, inr, Option, Some, None, IfSome, IfNone, Result, Ok, Err, IfOk, IfErr, arith}
+use Rattle.std.proofs.Common.{◌≡◌, ℕ, ◌+◌, ◌-◌, ◌%◌, ◌≤◌, ◌<◌, List, [], ◌++◌, length, sym, ap, ◌∙◌, subst, inl, inr, Option, Some, None, IfSome, IfNone, Result, Ok, Err, IfOk, IfErr, arith}
 use Rattle.std.specs.List.{flat_map}
 use Rattle.mpt_base.specs.Bytes.{part}
 use Rattle.mpt_base.specs.Outside.{Files, IsSizeTold, FillsFromTold}
 use Rattle.mpt_base.specs.declared.fault.Reason.{Reason}
+use Rattle.mpt_base.specs.declared.fault.Fault.{Fault}
 use Rattle.mpt_spec.specs.declared.pointer.Area.{Area}
 use Rattle.mpt_spec.specs.declared.pointer.Pointer.{Pointer}
 use Rattle.mpt_spec.specs.declared.tables.Table.{Table}
+use Rattle.mpt_spec.specs.declared.tables.Body.{Body}
 use Rattle.mpt_spec.specs.Pointer.{IsFloatingPointer}
-use Rattle.mpt_spec.specs.Search.{word_at, areas_of, places_in, search_places, IsFirst, HoldsAtNone, HasPointerAt, IsFirstPointerAt}
-use Rattle.mpt_spec.specs.Table.{base_length_at, ext_length_at, IsConfigurationTable, default_number}
+use Rattle.mpt_spec.specs.Search.{word_at, areas_of, places_in, search_places, IsFirst, HoldsAtNone, HasPointerAt, IsFirstPointerAt, HasNoPointer}
+use Rattle.mpt_spec.specs.Revision.{IsKnownRevision}
+use Rattle.mpt_spec.specs.Table.{base_length_at, ext_length_at, IsConfigurationTable, default_number, IsBodyOf, Describes}
 use Rattle.mpt_spec.specs.Faults.{HasTableFaultAt, IsFirstFault, IsLeastFault}
 use Rattle.mpt_spec.proofs.CallerLemmas.{IsFloatingPointer-fields}
 use Rattle.mpt_spec.proofs.FirstFaultLemmas.{IsFirstFault-of_table, IsFirstFault-of_pointer}
@@ -18,6 +21,7 @@ use Rattle.mpt_spec.proofs.TableWindowLemmas.{HasTableBytes, Agree-ext_length, I
 use Rattle.mpt_pointer.proofs.FirstLemmas.{KeepsFirst, KeepsFirst-behind, IsFirst-front}
 use Rattle.mpt_table.specs.Header.{HasRightPointer, IsPointerFault}
 use Rattle.mpt_table.specs.declared.search_from.Found.{Found}
+use Rattle.mpt_table.specs.declared.window.WindowFailure.{WindowFailure}
 use Rattle.mpt_table.specs.declared.refusal.FileRefusal.{FileRefusal}
 use Rattle.mpt_table.specs.declared.refusal.FileRefusal.TheVariants as refusal
 use Rattle.mpt_table.specs.Windows.{IfTold, IsAreaIn, IsFoundAmong, IfFaultOf, IsFileCauseOf, IsTableRefusal}
@@ -194,6 +198,29 @@ found_behind told name here rest whole at p found kept =
 pub none_of_all : (told : Option Files) (name : List ℕ) (whole : List ℕ) → IfTold told name (λ image. KeepsFirst (HasPointerAt image) [] whole) → IfTold told name (λ image. HoldsAtNone (HasPointerAt image) whole)
 none_of_all told name whole kept = IfTold-map told name (λ image. KeepsFirst (HasPointerAt image) [] whole) (λ image. HoldsAtNone (HasPointerAt image) whole) (λ image k. k.none tt) kept
 
+-- ---- the whole search
+
+-- the first pointer among the places of all areas is that of the search
+pub found_first : (told : Option Files) (name : List ℕ) (places : List ℕ) (r : Result (Option Found) WindowFailure) → IfTold told name (λ image. places ≡ search_places image)
+    → IfOk r (λ found. IfSome found (λ f. IsFoundAmong told name places f.at f.pointer)) → IfOk r (λ found. IfSome found (λ f. IfTold told name (λ image. IsFirstPointerAt image f.at × IsFloatingPointer f.pointer (part image f.at 16))))
+found_first told name places (Ok (Some f)) are some =
+    IfTold-map told name (λ image. (places ≡ search_places image) × (IsFirst (HasPointerAt image) places f.at × IsFloatingPointer f.pointer (part image f.at 16)))
+    (λ image. IsFirstPointerAt image f.at × IsFloatingPointer f.pointer (part image f.at 16))
+    (λ image h. (subst (λ (l : List ℕ). IsFirst (HasPointerAt image) l f.at) h.0 h.1.0, h.1.1))
+    (IfTold-both told name (λ image. places ≡ search_places image) (λ image. IsFirst (HasPointerAt image) places f.at × IsFloatingPointer f.pointer (part image f.at 16)) are some)
+found_first told name places (Ok None) are some = tt
+found_first told name places (Err failure) are some = tt
+
+-- where no place of the areas has one, the search has none
+pub none_first : (told : Option Files) (name : List ℕ) (places : List ℕ) (r : Result (Option Found) WindowFailure) → IfTold told name (λ image. places ≡ search_places image)
+    → IfOk r (λ found. IfNone found (IfTold told name (λ image. HoldsAtNone (HasPointerAt image) places))) → IfOk r (λ found. IfNone found (IfTold told name HasNoPointer))
+none_first told name places (Ok None) are none =
+    IfTold-map told name (λ image. (places ≡ search_places image) × HoldsAtNone (HasPointerAt image) places) HasNoPointer
+    (λ image h. subst (λ (l : List ℕ). HoldsAtNone (HasPointerAt image) l) h.0 h.1)
+    (IfTold-both told name (λ image. places ≡ search_places image) (λ image. HoldsAtNone (HasPointerAt image) places) are none)
+none_first told name places (Ok (Some f)) are none = tt
+none_first told name places (Err failure) are none = tt
+
 pub table_ok : (told : Option Files) (name bytes : List ℕ) (at : ℕ) (r : Result Table FileRefusal) → IfTold told name (λ image. HasTableBytes bytes image 0 at (length bytes)) → IfOk r (λ t. IsConfigurationTable t bytes 0) → IfOk r (λ t. IfTold told name (λ image. IsConfigurationTable t image at))
 table_ok told name bytes at (Ok t) same h = IsConfigurationTable-told told name bytes at t same h
 table_ok told name bytes at (Err _) same h = tt
@@ -211,3 +238,22 @@ table_refusal-told told name size at p refusal.NoPointer is_size found right lis
 table_refusal-told told name size at p (refusal.Fault f) is_size found right listed fits h = table_fault-told told name size at f.at p f.why is_size found right listed h
 table_refusal-told told name size at p refusal.Read is_size found right listed fits h = IfTold-all told name (λ image. Unit {0}) (λ image. tt)
 table_refusal-told told name size at p refusal.NoMemory is_size found right listed fits h = IfTold-all told name (λ image. Unit {0}) (λ image. tt)
+
+-- a fault before one end is before a later one
+pub fault_before : (r : Result Table FileRefusal) (m n : ℕ) → m ≤ n → IfErr r (λ e. IfFaultOf e (λ f. f.at < m)) → IfErr r (λ e. IfFaultOf e (λ f. f.at < n))
+fault_before (Ok t) m n le h = tt
+fault_before (Err (refusal.Fault f)) m n le h = omega arith
+fault_before (Err _) m n le h = tt
+
+-- what is no fault has each property of faults
+pub no_fault : (r : FileRefusal) (P : Fault → Type 0) → IfFaultOf r (λ f. ⊥) → IfFaultOf r P
+no_fault (refusal.Fault f) P h = absurd h
+no_fault _ P h = tt
+
+-- the first floating pointer with the body that it names
+pub Describes-told : (told : Option Files) (name : List ℕ) (at : ℕ) (p : Pointer) (b : Body) → IsKnownRevision p.revision → IfTold told name (λ image. IsFirstPointerAt image at × IsFloatingPointer p (part image at 16))
+    → IfTold told name (λ image. IsBodyOf b p image) → IfTold told name (λ image. Describes image (record { at = at; pointer = p; body = b }))
+Describes-told told name at p b revision first body =
+    IfTold-map told name (λ image. (IsFirstPointerAt image at × IsFloatingPointer p (part image at 16)) × IsBodyOf b p image) (λ image. Describes image (record { at = at; pointer = p; body = b }))
+    (λ image h. record { first = h.0.0; tables_there = record { pointer = h.0.1; revision = revision; body = h.1 } })
+    (IfTold-both told name (λ image. IsFirstPointerAt image at × IsFloatingPointer p (part image at 16)) (λ image. IsBodyOf b p image) first body)

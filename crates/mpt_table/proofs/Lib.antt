@@ -5,3 +5,5 @@ pub mod TableInWindow
 pub mod ToldLemmas
 pub mod WindowAreas
 pub mod FromLemmas
+pub mod WordFromLemmas
+pub mod AreasInside

@@ -130,7 +130,8 @@ fn among_from<S: Shelf>(
     for area in areas {
         match area_from(alloc, shelf, name, size, *area) {
             Ok(None) => {}
-            answer => return answer,
+            Ok(Some(found)) => return Ok(Some(found)),
+            Err(failure) => return Err(failure),
         }
     }
     Ok(None)

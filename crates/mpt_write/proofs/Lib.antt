@@ -1,3 +1,4 @@
+pub mod MapLemmas
 pub mod OrderLemmas
 pub mod PieceLemmas
 pub mod SizeLemmas

@@ -2,27 +2,32 @@
 //! (MultiProcessor Specification 1.4, sections 4.1 to 4.4; the order is this project's own).
 
 ghost use Rattle.std.specs.Prelude.{◌↔◌, IsTrue};
-ghost use Rattle.mpt_spec.specs.Canonical.{IsCanonicalBody, IsCanonical};
+ghost use Rattle.std.specs.List.{AllByRecursion};
+ghost use Rattle.mpt_spec.specs.Canonical.{HasClearBits, HasClearExtBits, IsCanonicalBody, IsCanonical};
 ghost use Rattle.mpt_spec.specs.declared.tables.Body.TheVariants as body;
 
 use crate::order::is_in_order;
-use mpt_spec::{Body, Table, Tables};
+use mpt_spec::{Base, Body, Ext, Table, Tables};
+
+fn are_clear_bases(entries: &[Base]) -> bool
+    ensures { IsTrue result ↔ AllByRecursion HasClearBits entries.now }
+{
+    entries.iter().all(|entry| entry.has_clear_bits())
+}
+
+fn are_clear_exts(entries: &[Ext]) -> bool
+    ensures { IsTrue result ↔ AllByRecursion HasClearExtBits entries.now }
+{
+    entries.iter().all(|entry| entry.has_clear_bits())
+}
 
 fn is_canonical_table(table: &Table) -> bool
     ensures { IsTrue result ↔ IsCanonicalBody (body.Listed table.now) }
 {
     table.has_clear_header()
-        && table
-            .base
-            .as_slice()
-            .iter()
-            .all(|entry| entry.has_clear_bits())
+        && are_clear_bases(table.base.as_slice())
         && is_in_order(table.base.as_slice())
-        && table
-            .ext
-            .as_slice()
-            .iter()
-            .all(|entry| entry.has_clear_bits())
+        && are_clear_exts(table.ext.as_slice())
 }
 
 fn is_canonical_body(body: &Body) -> bool

@@ -1,9 +1,9 @@
 use Rattle.std.proofs.Common.{◌+◌, ◌∙◌, get_or, drop, arith}
 use Rattle.std.specs.List.{flat_map}
-use Rattle.std.proofs.lemmas.List.{drop_more}
+use Rattle.std.proofs.lemmas.List.{drop_more, drop_all}
 use Rattle.mpt_spec.specs.declared.pointer.Area.{Area}
 use Rattle.mpt_spec.specs.Search.{places_in}
-use Rattle.mpt_table.proofs.FromLemmas.{passed-next}
+use Rattle.mpt_table.proofs.FromLemmas.{passed-next, found_behind, none_of_all}
 use Rattle.mpt_table.proofs.search_from.among_from.Goals as goal
 
 pub loop-area-preserved : goal.loop-area-preserved
@@ -21,4 +21,61 @@ loop-area-preserved g c =
       asked = omega (arith, own.asks, rw more at held.asked);
       areas = (rw more at held.areas).1;
       passed = passed-next (g.S.Shelf.files c.args.shelf.now) c.args.name.now (get_or areas i none) (drop (i + 1) areas) (flat_map places_in areas) (rw held.files at own.none) (rw more at held.passed);
+    }
+
+pub returns-in-Ok-Some-clause-some : goal.returns-in-Ok-Some-clause-some
+returns-in-Ok-Some-clause-some g c =
+    let areas = c.args.areas.now in
+    let i = c.loop-area.area-index in
+    let none : Area = record { from = 0; to = 0 } in
+    let more = drop_more areas i none c.loop-area-test.true in
+    let own = rw c.in-Ok-Some.field-0-is at c.in-Ok-Some.ensures in
+    let held = c.loop-area.invariant in
+    let found = c.in-Ok-Some.found in
+    found_behind (g.S.Shelf.files c.args.shelf.now) c.args.name.now (get_or areas i none) (drop (i + 1) areas) (flat_map places_in areas) found.at found.pointer (rw held.files at own.some) (rw more at held.passed)
+
+pub returns-in-Ok-Some-clause-unfailed : goal.returns-in-Ok-Some-clause-unfailed
+returns-in-Ok-Some-clause-unfailed g c = λ _. c.in-Ok-Some.ensures.unfailed (λ e. cc) ∙ c.loop-area.invariant.faults
+
+pub returns-in-Ok-Some-clause-asks : goal.returns-in-Ok-Some-clause-asks
+returns-in-Ok-Some-clause-asks g c =
+    let none : Area = record { from = 0; to = 0 } in
+    omega (arith, c.in-Ok-Some.ensures.asks, rw (drop_more c.args.areas.now c.loop-area.area-index none c.loop-area-test.true) at c.loop-area.invariant.asked)
+
+pub returns-in-Err-clause-unfailed : goal.returns-in-Err-clause-unfailed
+returns-in-Err-clause-unfailed g c = λ other. c.in-Err.ensures.unfailed other ∙ c.loop-area.invariant.faults
+
+pub returns-in-Err-clause-unread : goal.returns-in-Err-clause-unread
+returns-in-Err-clause-unread g c = λ unread. rw c.loop-area.invariant.faults at (c.in-Err.ensures.unread unread)
+
+pub returns-in-Err-clause-asks : goal.returns-in-Err-clause-asks
+returns-in-Err-clause-asks g c =
+    let none : Area = record { from = 0; to = 0 } in
+    omega (arith, c.in-Err.ensures.asks, rw (drop_more c.args.areas.now c.loop-area.area-index none c.loop-area-test.true) at c.loop-area.invariant.asked)
+
+pub returns-clause-none : goal.returns-clause-none
+returns-clause-none g c =
+    let areas = c.args.areas.now in
+    none_of_all (g.S.Shelf.files c.args.shelf.now) c.args.name.now (flat_map places_in areas) (rw (drop_all c.loop-area.area-index areas (omega (arith, c.loop-area-test.false))) at c.loop-area.invariant.passed)
+
+pub returns-clause-asks : goal.returns-clause-asks
+returns-clause-asks g c = omega (arith, c.loop-area.invariant.asked)
+
+pub returns-clause-unfailed : goal.returns-clause-unfailed
+returns-clause-unfailed g c = λ _. c.loop-area.invariant.faults
+
+pub returns-in-Ok-Some-clause-unread : goal.returns-in-Ok-Some-clause-unread
+returns-in-Ok-Some-clause-unread g c = λ e. absurd cc
+
+pub returns-in-Ok-Some-clause-place : goal.returns-in-Ok-Some-clause-place
+returns-in-Ok-Some-clause-place g c =
+    let own = rw c.in-Ok-Some.field-0-is at c.in-Ok-Some.ensures in
+    own.place
+
+pub area_from-requires : goal.area_from-requires
+area_from-requires g c =
+    let none : Area = record { from = 0; to = 0 } in
+    record {
+      told = rw c.loop-area.invariant.files c.requires.told;
+      area = (rw (drop_more c.args.areas.now c.loop-area.area-index none c.loop-area-test.true) at c.loop-area.invariant.areas).0;
     }

@@ -1,3 +1,5 @@
+use Rattle.std.proofs.Common.{arith}
+use Rattle.mpt_table.proofs.AreasInside.{areas_inside, areas_short}
 use Rattle.mpt_table.proofs.FromLemmas.{areas-told}
 use Rattle.mpt_table.proofs.search_from.areas_from.Goals as goal
 
@@ -5,3 +7,9 @@ pub returns-clause-told : goal.returns-clause-told
 returns-clause-told g c =
     areas-told (g.S.Shelf.files c.args.shelf.now) c.args.name.now c.in_ok-ebda.ebda c.in_ok-base_kib.base_kib c.args.size c.areas.result.items c.requires.told
     c.in_ok-ebda.ensures.told (rw c.in_ok-ebda.ensures.files_stay at c.in_ok-base_kib.ensures.told) c.areas.ensures
+
+pub returns-clause-areas : goal.returns-clause-areas
+returns-clause-areas g c = rw c.areas.ensures (areas_inside c.in_ok-ebda.ebda c.in_ok-base_kib.base_kib c.args.size (omega arith) (omega arith))
+
+pub returns-clause-bytes : goal.returns-clause-bytes
+returns-clause-bytes g c = rw c.areas.ensures (areas_short c.in_ok-ebda.ebda c.in_ok-base_kib.base_kib c.args.size)

@@ -1,6 +1,6 @@
 use Rattle.std.proofs.Common.{◌≡◌, length, ap, ◌∙◌, arith}
 use Rattle.mpt_write.proofs.BlockLemmas.{sealed_base_table}
-use Rattle.mpt_write.proofs.PieceLemmas.{written_back}
+use Rattle.mpt_base.proofs.WrittenBack.{written_back}
 use Rattle.mpt_write.proofs.block.base_table.Goals as goal
 
 pub returns-clause-bytes : goal.returns-clause-bytes

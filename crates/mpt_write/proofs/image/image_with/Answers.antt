@@ -3,7 +3,7 @@ use Rattle.std.specs.Prelude.{◌/◌}
 use Rattle.std.specs.Int.{to_le_bytes, w16}
 use Rattle.mpt_base.specs.Writing.{overlay}
 use Rattle.mpt_spec.specs.Image.{pointer_bytes, body_bytes}
-use Rattle.mpt_write.proofs.PieceLemmas.{written_back}
+use Rattle.mpt_base.proofs.WrittenBack.{written_back}
 use Rattle.mpt_write.proofs.image.image_with.Goals as goal
 
 pub returns : goal.returns

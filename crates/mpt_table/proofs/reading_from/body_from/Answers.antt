@@ -1,0 +1,21 @@
+use Rattle.mpt_spec.specs.declared.tables.Body.TheVariants as body
+use Rattle.mpt_spec.specs.Table.{IsBodyOf, IsConfigurationTable}
+use Rattle.mpt_table.proofs.ToldLemmas.{IfTold-map}
+use Rattle.mpt_table.proofs.reading_from.body_from.Goals as goal
+
+pub returns-in-Ok-clause-body : goal.returns-in-Ok-clause-body
+returns-in-Ok-clause-body g c =
+    let p = c.args.pointer.now in
+    let table = c.in-Ok.table in
+    let listed = c.if-pointer-ne0.false in
+    IfTold-map (g.S.Shelf.files c.args.shelf.now) c.args.name.now (λ image. IsConfigurationTable table image p.address) (λ image. IsBodyOf (body.Listed table) p image)
+    (λ image there. (listed, c.requires.right.body listed, there)) (rw c.from.ensures at c.in-Ok.ensures.table)
+
+pub returns-in-Ok-clause-well_formed : goal.returns-in-Ok-clause-well_formed
+returns-in-Ok-clause-well_formed g c = (c.if-pointer-ne0.false, c.requires.right.body c.if-pointer-ne0.false, c.in-Ok.ensures.well_formed)
+
+pub returns-in-Err-clause-listed : goal.returns-in-Err-clause-listed
+returns-in-Err-clause-listed g c = c.if-pointer-ne0.false
+
+pub returns-in-Err-clause-fault : goal.returns-in-Err-clause-fault
+returns-in-Err-clause-fault g c = rw c.from.ensures at c.in-Err.ensures.fault

@@ -1,0 +1,22 @@
+use Rattle.std.proofs.Common.{length, ap, ◌∙◌, ◌+◌, arith}
+use Rattle.std.specs.Prelude.{sum_by}
+use Rattle.std.proofs.lemmas.List.{take_all}
+use Rattle.mpt_base.proofs.AppendLemmas.{appended_more, appended_all}
+use Rattle.mpt_spec.specs.Entries.{base_length}
+use Rattle.mpt_spec.specs.Image.{base_bytes}
+use Rattle.mpt_write.proofs.SizeLemmas.{summed_more}
+use Rattle.mpt_write.proofs.block.push_bases.Goals as goal
+
+pub loop-entry-preserved : goal.loop-entry-preserved
+loop-entry-preserved c =
+    let entries = c.args.entries.now in
+    let i = c.loop-entry.entry-index in (
+      appended_more base_bytes entries i _ c.args.out.now.items c.loop-entry.out.items c.write_base.new.out.items (omega (arith, c.loop-entry-test.true)) c.loop-entry.invariant.0 c.in_ok-write_base.ensures.ok,
+      summed_more base_length entries i _ (length c.args.out.now.items) (length c.loop-entry.out.items) (length c.write_base.new.out.items) (omega (arith, c.loop-entry-test.true)) c.loop-entry.invariant.1 c.in_ok-write_base.ensures.size,
+    )
+
+pub returns-clause-bytes : goal.returns-clause-bytes
+returns-clause-bytes c = appended_all base_bytes c.args.entries.now c.loop-entry.entry-index c.args.out.now.items c.loop-entry.out.items (omega (arith, c.loop-entry-test.false)) c.loop-entry.invariant.0
+
+pub returns-clause-size : goal.returns-clause-size
+returns-clause-size c = c.loop-entry.invariant.1 ∙ ap (λ es. length c.args.out.now.items + sum_by base_length es) (take_all c.loop-entry.entry-index c.args.entries.now (omega (arith, c.loop-entry-test.false)))
