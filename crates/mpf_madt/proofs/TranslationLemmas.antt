@@ -1,5 +1,5 @@
 -- The entries of the table of a platform, one more at a time, and how many there are.
-use Rattle.std.proofs.Common.{◌≡◌, ℕ, suc, ◌+◌, ◌*◌, ◌%◌, ◌<◌, Bool, true, false, cond, List, [], ◌∷◌, ◌++◌, length, take, get_or, map, refl, sym, ap, ◌∙◌, arith, append-nil}
+use Rattle.std.proofs.Common.{◌≡◌, ℕ, suc, ◌+◌, ◌*◌, ◌%◌, ◌<◌, Bool, true, false, cond, List, [], ◌∷◌, ◌++◌, length, take, get_or, map, refl, sym, ap, ◌∙◌, arith, append-nil, append_assoc}
 use Rattle.std.specs.Prelude.{Option, Some, None, filter, filter_map, option_to_list}
 use Rattle.std.specs.List.{enumerate_from, cons_option, range_with_len}
 use Rattle.std.proofs.lemmas.List.{take_more, length-take}
@@ -8,7 +8,7 @@ use Rattle.std.proofs.lemmas.List.FromFn.{length-enumerate_from}
 use Rattle.mpt_spec.specs.declared.entry.IoApic.{IoApic}
 use Rattle.mpt_spec.specs.declared.entry.Processor.{Processor}
 use Rattle.mpt_route.specs.Routes.{is_enabled}
-use Rattle.mpt_route.proofs.ListLemmas.{range_more}
+use Rattle.mpt_route.proofs.ListLemmas.{passes, range_more, takes}
 use Rattle.mpf_madt.specs.declared.madt.MadtEntry.{MadtEntry}
 use Rattle.mpf_madt.specs.declared.madt.MadtEntry.TheVariants as entry
 use Rattle.mpf_madt.specs.Translation.{local_of, io_of, locals_of, ios_of}
@@ -76,3 +76,22 @@ module _ {Y : Type 0} (g : ℕ → Option Y) where
   pub number_takes : (i : ℕ) (y : Y) (old new : List Y) → g i ≡ Some y → old ≡ filter_map g (range_with_len 0 i) → new ≡ old ++ y ∷ [] → new ≡ filter_map g (range_with_len 0 (i + 1))
   number_takes i y old new is was now =
       now ∙ ap (λ (ys : List Y). ys ++ y ∷ []) was ∙ sym (numbers_more i ∙ ap (λ (o : Option Y). filter_map g (range_with_len 0 i) ++ option_to_list o) is)
+
+  -- the same behind what was there
+  pub number_leaves : (i : ℕ) (start old new : List Y) → g i ≡ None → new ≡ old → old ≡ start ++ filter_map g (range_with_len 0 i) → new ≡ start ++ filter_map g (range_with_len 0 (i + 1))
+  number_leaves i start old new none same was = same ∙ was ∙ ap (λ (ys : List Y). start ++ ys) (number_passes i (filter_map g (range_with_len 0 i)) (filter_map g (range_with_len 0 i)) none refl refl)
+
+  pub number_appends : (i : ℕ) (y : Y) (start old new : List Y) → g i ≡ Some y → old ≡ start ++ filter_map g (range_with_len 0 i) → new ≡ old ++ y ∷ [] → new ≡ start ++ filter_map g (range_with_len 0 (i + 1))
+  number_appends i y start old new is was now =
+      now ∙ ap (λ (ys : List Y). ys ++ y ∷ []) was ∙ append_assoc start (filter_map g (range_with_len 0 i)) (y ∷ [])
+      ∙ ap (λ (ys : List Y). start ++ ys) (number_takes i y (filter_map g (range_with_len 0 i)) (filter_map g (range_with_len 0 i) ++ y ∷ []) is refl refl)
+
+-- the members before one more, of each what a function gives of it, behind what was there
+module _ {X Y : Type 0} (h : X → Option Y) where
+  pub member_leaves : (xs : List X) (i : ℕ) (d : X) (start old : List Y) → i < length xs → h (get_or xs i d) ≡ None → old ≡ start ++ filter_map h (take i xs) → old ≡ start ++ filter_map h (take (i + 1) xs)
+  member_leaves xs i d start old l none was = was ∙ ap (λ (ys : List Y). start ++ ys) (passes h xs i d (filter_map h (take i xs)) l none refl)
+
+  pub member_appends : (xs : List X) (i : ℕ) (d : X) (y : Y) (start old new : List Y) → i < length xs → h (get_or xs i d) ≡ Some y → old ≡ start ++ filter_map h (take i xs) → new ≡ old ++ y ∷ [] → new ≡ start ++ filter_map h (take (i + 1) xs)
+  member_appends xs i d y start old new l is was now =
+      now ∙ ap (λ (ys : List Y). ys ++ y ∷ []) was ∙ append_assoc start (filter_map h (take i xs)) (y ∷ [])
+      ∙ ap (λ (ys : List Y). start ++ ys) (takes h xs i d y (filter_map h (take i xs)) (filter_map h (take i xs) ++ y ∷ []) l is refl refl)

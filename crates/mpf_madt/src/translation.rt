@@ -1,7 +1,7 @@
 //! From a platform and its routes to a MADT that says the same (MultiProcessor Specification 1.4,
 //! section 4.3; ACPI Specification, section 5.2.12).
 
-ghost use Rattle.std.specs.Prelude.{◌≡◌, ◌<◌, ◌≤◌, ◌++◌, ℕ, length, position, ◌==◌, Err, IfOk, IfErr, IfSome};
+ghost use Rattle.std.specs.Prelude.{◌≡◌, ◌<◌, ◌≤◌, ◌++◌, ℕ, length, position, ◌==◌, Err, IfOk, IfErr, IfSome, OnOk};
 ghost use Rattle.mpf_madt.specs.Lawful.{IsLawfulMadt};
 ghost use Rattle.mpf_madt.specs.Translation.{is_plain, flags_of, override_for, uid_of, nmi_of, locals_of, ios_of, overrides_of, nmis_of, apics_of, interrupts_of, madt_of};
 ghost use Rattle.mpt_route.specs.Platform.{IsSmallPlatform};
@@ -100,17 +100,20 @@ fn override_for(irq: u8, line: Option<Line>) -> Option<MadtEntry>
     }
 }
 
-// an override for each ISA interrupt that needs one
-fn overrides(alloc: Global, p: &Platform, answers: &[Answer]) -> Result<Vec<MadtEntry>, AllocError>
-    ensures { IfOk result (λ es. es.items ≡ overrides_of p.now answers.now) }
+// appends an override for each ISA interrupt that needs one
+fn push_overrides(
+    out: &mut Vec<MadtEntry>,
+    p: &Platform,
+    answers: &[Answer],
+) -> Result<(), AllocError>
+    ensures { OnOk result (out.new.items ≡ out.old.items ++ overrides_of p.now answers.now) }
 {
-    let mut overrides = Vec::new(alloc);
     for irq in 0..16u8 {
         if let Some(entry) = override_for(irq, source(p, answers, irq)) {
-            overrides.push(entry)?;
+            out.push(entry)?;
         }
     }
-    Ok(overrides)
+    Ok(())
 }
 
 // the place of the first processor with this id
@@ -153,22 +156,21 @@ fn nmi_of(processors: &[Processor], e: IntEntry) -> Option<MadtEntry>
     }
 }
 
-// each local NMI to a processor
-fn nmis(
-    alloc: Global,
+// appends each local NMI to a processor
+fn push_nmis(
+    out: &mut Vec<MadtEntry>,
     processors: &[Processor],
     lints: &[IntEntry],
-) -> Result<Vec<MadtEntry>, AllocError>
+) -> Result<(), AllocError>
     requires few { length processors.now ≤ 255 }
-    ensures { IfOk result (λ es. es.items ≡ nmis_of processors.now lints.now) }
+    ensures { OnOk result (out.new.items ≡ out.old.items ++ nmis_of processors.now lints.now) }
 {
-    let mut nmis = Vec::new(alloc);
     for e in lints {
         if let Some(entry) = nmi_of(processors, *e) {
-            nmis.push(entry)?;
+            out.push(entry)?;
         }
     }
-    Ok(nmis)
+    Ok(())
 }
 
 // the entries of both, in their order
@@ -191,15 +193,17 @@ fn apics(alloc: Global, p: &Platform) -> Result<Vec<MadtEntry>, AllocError>
     Ok(apics)
 }
 
-// the interrupts
-fn interrupts(alloc: Global, p: &Platform, answers: &[Answer]) -> Result<Vec<MadtEntry>, AllocError>
+// appends the interrupts
+fn push_interrupts(
+    out: &mut Vec<MadtEntry>,
+    p: &Platform,
+    answers: &[Answer],
+) -> Result<(), AllocError>
     requires few { length p.now.processors ≤ 255 }
-    ensures { IfOk result (λ es. es.items ≡ interrupts_of p.now answers.now) }
+    ensures { OnOk result (out.new.items ≡ out.old.items ++ interrupts_of p.now answers.now) }
 {
-    let overrides = overrides(alloc, p, answers)?;
-    let nmis = nmis(alloc, p.processors.as_slice(), p.lints.as_slice())?;
-    let interrupts = joined(overrides, nmis)?;
-    Ok(interrupts)
+    push_overrides(out, p, answers)?;
+    push_nmis(out, p.processors.as_slice(), p.lints.as_slice())
 }
 
 // the entries, in their order
@@ -208,9 +212,8 @@ fn entries(alloc: Global, p: &Platform, answers: &[Answer]) -> Result<Vec<MadtEn
     requires small { IsSmallPlatform p.now }
     ensures { IfOk result (λ es. es.items ≡ apics_of p.now ++ interrupts_of p.now answers.now) }
 {
-    let apics = apics(alloc, p)?;
-    let interrupts = interrupts(alloc, p, answers)?;
-    let entries = joined(apics, interrupts)?;
+    let mut entries = apics(alloc, p)?;
+    push_interrupts(&mut entries, p, answers)?;
     Ok(entries)
 }
 
