@@ -45,74 +45,61 @@ pub(crate) fn cpu_name(text: &str) -> Option<CpuName>
     ensures { result ≡ cpu_name_of text.now }
 {
     match *text.as_bytes() {
-        [a, b, c] => name_of_three(a, b, c),
-        [a, b, c, d] => name_of_four(a, b, c, d),
-        [a, b, c, d, e] => name_of_five(a, b, c, d, e),
-        [a, b, c, d, e, f] => name_of_six(a, b, c, d, e, f),
+        [a, b, c] => cpu_name_of_three(a, b, c),
+        [a, b, c, d] => cpu_name_of_four(a, b, c, d),
+        [a, b, c, d, e] => cpu_name_of_five(a, b, c, d, e),
+        [a, b, c, d, e, f] => cpu_name_of_six(a, b, c, d, e, f),
         _ => None,
     }
 }
 
-// the processor's word whose name is these three bytes; `&` is no branch, so a word is two cases and not one for each byte
-fn name_of_three(a: u8, b: u8, c: u8) -> Option<CpuName>
+// the processor's word whose name is these three bytes
+fn cpu_name_of_three(a: u8, b: u8, c: u8) -> Option<CpuName>
     ensures { result ≡ cpu_name_of (a ∷ b ∷ c ∷ []) }
 {
-    match a {
-        b'i' => name_of_ip(b, c),
-        b'n' => ((b == b'm') & (c == b'i')).then_some(CpuName::Nmi),
-        b'e' => ((b == b'o') & (c == b'i')).then_some(CpuName::Eoi),
-        b't' => ((b == b'p') & (c == b'r')).then_some(CpuName::Tpr),
-        b'l' => ((b == b'd') & (c == b'r')).then_some(CpuName::Ldr),
-        b'd' => ((b == b'f') & (c == b'r')).then_some(CpuName::Dfr),
-        _ => None,
-    }
-}
-
-// the interrupt that an `i` and these two bytes name
-fn name_of_ip(b: u8, c: u8) -> Option<CpuName>
-    ensures { result ≡ cpu_name_of (105 ∷ b ∷ c ∷ []) }
-{
-    match c {
-        b'i' => (b == b'p').then_some(CpuName::Ipi),
-        b'l' => (b == b'p').then_some(CpuName::Ipl),
+    match (a, b, c) {
+        (b'i', b'p', b'i') => Some(CpuName::Ipi),
+        (b'i', b'p', b'l') => Some(CpuName::Ipl),
+        (b'n', b'm', b'i') => Some(CpuName::Nmi),
+        (b'e', b'o', b'i') => Some(CpuName::Eoi),
+        (b't', b'p', b'r') => Some(CpuName::Tpr),
+        (b'l', b'd', b'r') => Some(CpuName::Ldr),
+        (b'd', b'f', b'r') => Some(CpuName::Dfr),
         _ => None,
     }
 }
 
 // the processor's word whose name is these four bytes
-fn name_of_four(a: u8, b: u8, c: u8, d: u8) -> Option<CpuName>
+fn cpu_name_of_four(a: u8, b: u8, c: u8, d: u8) -> Option<CpuName>
     ensures { result ≡ cpu_name_of (a ∷ b ∷ c ∷ d ∷ []) }
 {
-    match a {
-        b't' => ((b == b'a') & (c == b'k') & (d == b'e')).then_some(CpuName::Take),
-        b'p' => ((b == b'o') & (c == b'l') & (d == b'l')).then_some(CpuName::Poll),
+    match (a, b, c, d) {
+        (b't', b'a', b'k', b'e') => Some(CpuName::Take),
+        (b'p', b'o', b'l', b'l') => Some(CpuName::Poll),
         _ => None,
     }
 }
 
 // the processor's word whose name is these five bytes
-fn name_of_five(a: u8, b: u8, c: u8, d: u8, e: u8) -> Option<CpuName>
+fn cpu_name_of_five(a: u8, b: u8, c: u8, d: u8, e: u8) -> Option<CpuName>
     ensures { result ≡ cpu_name_of (a ∷ b ∷ c ∷ d ∷ e ∷ []) }
 {
-    match c {
-        b's' => ((a == b'i') & (b == b'o') & (d == b'e') & (e == b'l')).then_some(CpuName::IoSel),
-        b'w' => ((a == b'i') & (b == b'o') & (d == b'i') & (e == b'n')).then_some(CpuName::IoWin),
-        b'u' => ((a == b'p') & (b == b'a') & (d == b's') & (e == b'e')).then_some(CpuName::Pause),
+    match (a, b, c, d, e) {
+        (b'i', b'o', b's', b'e', b'l') => Some(CpuName::IoSel),
+        (b'i', b'o', b'w', b'i', b'n') => Some(CpuName::IoWin),
+        (b'p', b'a', b'u', b's', b'e') => Some(CpuName::Pause),
         _ => None,
     }
 }
 
 // the processor's word whose name is these six bytes
-fn name_of_six(a: u8, b: u8, c: u8, d: u8, e: u8, f: u8) -> Option<CpuName>
+fn cpu_name_of_six(a: u8, b: u8, c: u8, d: u8, e: u8, f: u8) -> Option<CpuName>
     ensures { result ≡ cpu_name_of (a ∷ b ∷ c ∷ d ∷ e ∷ f ∷ []) }
 {
-    let is_ioread = (a == b'i')
-        & (b == b'o')
-        & (c == b'r')
-        & (d == b'e')
-        & (e == b'a')
-        & (f == b'd');
-    is_ioread.then_some(CpuName::IoRead)
+    match (a, b, c, d, e, f) {
+        (b'i', b'o', b'r', b'e', b'a', b'd') => Some(CpuName::IoRead),
+        _ => None,
+    }
 }
 
 // the device's word of this name
@@ -120,15 +107,39 @@ pub(crate) fn device_name(text: &str) -> Option<DeviceName>
     ensures { result ≡ device_name_of text.now }
 {
     match *text.as_bytes() {
-        [a, b, c] => ((a == b'l') & (b == b'o') & (c == b'w')).then_some(DeviceName::Low),
-        [a, b, c, d] => {
-            ((a == b'h') & (b == b'i') & (c == b'g') & (d == b'h')).then_some(DeviceName::High)
-        }
-        [a, b, c, d, e] => {
-            ((a == b'p') & (b == b'u') & (c == b'l') & (d == b's') & (e == b'e')).then_some(
-                DeviceName::Pulse,
-            )
-        }
+        [a, b, c] => device_name_of_three(a, b, c),
+        [a, b, c, d] => device_name_of_four(a, b, c, d),
+        [a, b, c, d, e] => device_name_of_five(a, b, c, d, e),
+        _ => None,
+    }
+}
+
+// the device's word whose name is these three bytes
+fn device_name_of_three(a: u8, b: u8, c: u8) -> Option<DeviceName>
+    ensures { result ≡ device_name_of (a ∷ b ∷ c ∷ []) }
+{
+    match (a, b, c) {
+        (b'l', b'o', b'w') => Some(DeviceName::Low),
+        _ => None,
+    }
+}
+
+// the device's word whose name is these four bytes
+fn device_name_of_four(a: u8, b: u8, c: u8, d: u8) -> Option<DeviceName>
+    ensures { result ≡ device_name_of (a ∷ b ∷ c ∷ d ∷ []) }
+{
+    match (a, b, c, d) {
+        (b'h', b'i', b'g', b'h') => Some(DeviceName::High),
+        _ => None,
+    }
+}
+
+// the device's word whose name is these five bytes
+fn device_name_of_five(a: u8, b: u8, c: u8, d: u8, e: u8) -> Option<DeviceName>
+    ensures { result ≡ device_name_of (a ∷ b ∷ c ∷ d ∷ e ∷ []) }
+{
+    match (a, b, c, d, e) {
+        (b'p', b'u', b'l', b's', b'e') => Some(DeviceName::Pulse),
         _ => None,
     }
 }
