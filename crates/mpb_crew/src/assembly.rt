@@ -14,7 +14,7 @@ use crate::worker::Worker;
 use mpb_board::{Board, agents};
 use mpb_bus::Bus;
 use mpb_latch::{ColSeat, DevSeat, Latch};
-use mpb_spec::{Config, DevWord};
+use mpb_spec::{Agent, Config, DevWord};
 use mpt_base::NoMemory;
 use std::alloc::Global;
 
@@ -27,6 +27,16 @@ pub(crate) struct Assembly {
     pub(crate) workers: Vec<Worker>,
 }
 
+// What a run takes beside its bus: the latch with its seats, the words of each device, and the agents.
+#[derive(Drop)]
+struct BesideBus {
+    latch: Latch,
+    devs: Vec<DevSeat>,
+    cols: Vec<ColSeat>,
+    devices: Vec<Vec<DevWord>>,
+    agents: Vec<Agent>,
+}
+
 /// What a run of the board works on; the board goes to the bus.
 pub(crate) fn assembled(alloc: Global, board: Board) -> Result<Assembly, NoMemory>
     requires opening { board.journal ≡ [] }
@@ -36,15 +46,37 @@ pub(crate) fn assembled(alloc: Global, board: Board) -> Result<Assembly, NoMemor
     ensures words { IfOk result (λ o. map (λ words. words.items) o.devices.items ≡ board.plan.devices) }
     ensures workers { IfOk result (λ o. o.workers.items ≡ map (fresh_worker o.bus.bus o.latch.latch board.plan) (agents_of board.plan)) }
 {
-    let config = board.config();
-    let devices = words_of(alloc, config.devices.as_slice())?;
-    let (latch, devs, cols) = latch_for(alloc, config, devices.as_slice())?;
-    let (bus, workers) = bus_and_workers(alloc, board, &latch, devs, cols)?;
-    Ok(Assembly {
-        bus,
+    match beside_bus(alloc, board.config()) {
+        Ok(made) => with_bus(alloc, board, made),
+        Err(error) => Err(error),
+    }
+}
+
+// what a run of a board of this config takes beside its bus
+fn beside_bus(alloc: Global, config: &Config) -> Result<BesideBus, NoMemory>
+    requires config { IsConfig config.now }
+    requires small { plan_size config.now < 2 ^ 32 }
+    ensures latch { IfOk result (λ b. (b.latch.ios ≡ length config.now.ios) × (b.latch.plans ≡ map pulses_in config.now.devices)) }
+    ensures devs { IfOk result (λ b. b.devs.items ≡ map (fresh_device_seat b.latch.latch) b.latch.plans) }
+    ensures cols { IfOk result (λ b. b.cols.items ≡ map (fresh_collector_seat b.latch.latch b.latch.plans) (range_with_len 0 (length config.now.ios))) }
+    ensures words { IfOk result (λ b. map (λ words. words.items) b.devices.items ≡ config.now.devices) }
+    ensures agents { IfOk result (λ b. b.agents.items ≡ agents_of config.now) }
+{
+    let Ok(devices) = words_of(alloc, config.devices.as_slice()) else {
+        return Err(NoMemory);
+    };
+    let Ok(agents) = agents(alloc, config) else {
+        return Err(NoMemory);
+    };
+    let Ok((latch, devs, cols)) = latch_for(alloc, config, devices.as_slice()) else {
+        return Err(NoMemory);
+    };
+    Ok(BesideBus {
         latch,
+        devs,
+        cols,
         devices,
-        workers,
+        agents,
     })
 }
 
@@ -61,9 +93,46 @@ fn latch_for(
     ensures devices { IfOk result (λ made. made.1.items ≡ map (fresh_device_seat made.0.latch) made.0.plans) }
     ensures collectors { IfOk result (λ made. made.2.items ≡ map (fresh_collector_seat made.0.latch made.0.plans) (range_with_len 0 (length config.now.ios))) }
 {
-    let plans = plans_of(alloc, devices)?;
-    let (latch, devs, cols) = Latch::new(alloc, config.ios.len() as u8, plans.as_slice())?;
+    let Ok(plans) = plans_of(alloc, devices) else {
+        return Err(NoMemory);
+    };
+    let Ok((latch, devs, cols)) = Latch::new(alloc, config.ios.len() as u8, plans.as_slice()) else {
+        return Err(NoMemory);
+    };
     Ok((latch, devs, cols))
+}
+
+// the same with a bus that has the board, and with the workers
+fn with_bus(alloc: Global, board: Board, made: BesideBus) -> Result<Assembly, NoMemory>
+    requires opening { board.journal ≡ [] }
+    requires config { IsConfig board.plan }
+    requires latch { (made.latch.ios ≡ length board.plan.ios) × (made.latch.plans ≡ map pulses_in board.plan.devices) }
+    requires devs { made.devs.items ≡ map (fresh_device_seat made.latch.latch) made.latch.plans }
+    requires cols { made.cols.items ≡ map (fresh_collector_seat made.latch.latch made.latch.plans) (range_with_len 0 (length board.plan.ios)) }
+    requires words { map (λ words. words.items) made.devices.items ≡ board.plan.devices }
+    requires agents { made.agents.items ≡ agents_of board.plan }
+    ensures config { IfOk result (λ o. IsConfig o.bus.plan) }
+    ensures bus { IfOk result (λ o. o.bus.plan ≡ board.plan) }
+    ensures latch { IfOk result (λ o. (o.latch.ios ≡ length board.plan.ios) × (o.latch.plans ≡ map pulses_in board.plan.devices)) }
+    ensures words { IfOk result (λ o. map (λ words. words.items) o.devices.items ≡ board.plan.devices) }
+    ensures workers { IfOk result (λ o. o.workers.items ≡ map (fresh_worker o.bus.bus o.latch.latch board.plan) (agents_of board.plan)) }
+{
+    let BesideBus {
+        latch,
+        devs,
+        cols,
+        devices,
+        agents,
+    } = made;
+    match bus_and_workers(alloc, board, &latch, agents.as_slice(), devs, cols) {
+        Ok((bus, workers)) => Ok(Assembly {
+            bus,
+            latch,
+            devices,
+            workers,
+        }),
+        Err(error) => Err(error),
+    }
 }
 
 // a bus that has the board, and a worker for each of its agents, which has the agent's seats on bus and latch
@@ -71,18 +140,23 @@ fn bus_and_workers(
     alloc: Global,
     board: Board,
     latch: &Latch,
+    agents: &[Agent],
     devs: Vec<DevSeat>,
     cols: Vec<ColSeat>,
 ) -> Result<(Bus, Vec<Worker>), NoMemory>
     requires opening { board.journal ≡ [] }
+    requires agents { agents.now ≡ agents_of board.plan }
     requires plans { latch.now.plans ≡ map pulses_in board.plan.devices }
     requires devs { devs.items ≡ map (fresh_device_seat latch.now.latch) latch.now.plans }
     requires cols { cols.items ≡ map (fresh_collector_seat latch.now.latch latch.now.plans) (range_with_len 0 (length board.plan.ios)) }
     ensures bus { IfOk result (λ made. made.0.plan ≡ board.plan) }
     ensures workers { IfOk result (λ made. made.1.items ≡ map (fresh_worker made.0.bus latch.now.latch board.plan) (agents_of board.plan)) }
 {
-    let agents = agents(alloc, board.config())?;
-    let (bus, seats) = Bus::new(alloc, board)?;
-    let workers = workers_of(alloc, &bus, latch, agents.as_slice(), seats, cols, devs)?;
+    let Ok((bus, seats)) = Bus::new(alloc, board) else {
+        return Err(NoMemory);
+    };
+    let Ok(workers) = workers_of(alloc, &bus, latch, agents, seats, cols, devs) else {
+        return Err(NoMemory);
+    };
     Ok((bus, workers))
 }

@@ -43,8 +43,12 @@ pub fn threads<R: Threads + Wait + Sync, G: Gate + Sync>(
     // Each other processor is started once, at the page.
     ensures started { IfOk result (λ ran. (page : ℕ) → IsStartableAt page board.plan → IsStartedOnce page board.plan ran.board.journal) }
 {
-    let assembly = assembled(alloc, board)?;
-    let room = room_for(alloc, assembly.workers.len())?;
+    let Ok(assembly) = assembled(alloc, board) else {
+        return Err(NoMemory);
+    };
+    let Ok(room) = room_for(alloc, assembly.workers.len()) else {
+        return Err(NoMemory);
+    };
     Ok(run(rt, gate, assembly, room))
 }
 

@@ -26,13 +26,36 @@ pub(crate) fn push_entry_lines(out: &mut Vec<u8>, journal: &[Entry]) -> Result<(
 pub fn push_entry_line(out: &mut Vec<u8>, number: u64, entry: &Entry) -> Result<(), AllocError>
     ensures line { OnOk result (out.new.items ≡ out.old.items ++ entry_line number entry.now) }
 {
-    push_decimal(out, number)?;
-    push_agent(out, entry.agent)?;
-    push_op(out, entry.op)?;
-    push_text(out, b" :")?;
-    push_outcomes(out, entry.outcomes.as_slice())?;
-    out.push(b'\n')?;
-    Ok(())
+    match push_step(out, number, entry) {
+        Ok(()) => push_answer(out, entry.outcomes.as_slice()),
+        Err(error) => Err(error),
+    }
+}
+
+// the number of an entry, its agent and its op
+fn push_step(out: &mut Vec<u8>, number: u64, entry: &Entry) -> Result<(), AllocError>
+    ensures { OnOk result (out.new.items ≡ out.old.items ++ (decimal number ++ (codes " " ++ (agent_text entry.now.agent ++ (codes " " ++ op_text entry.now.op))))) }
+{
+    if let Err(error) = push_decimal(out, number) {
+        return Err(error);
+    }
+    match push_agent(out, entry.agent) {
+        Ok(()) => push_op(out, entry.op),
+        Err(error) => Err(error),
+    }
+}
+
+// what came of it, to the end of the line
+fn push_answer(out: &mut Vec<u8>, outcomes: &[Outcome]) -> Result<(), AllocError>
+    ensures { OnOk result (out.new.items ≡ out.old.items ++ (codes " :" ++ (flat_map further_outcome outcomes.now ++ codes "\n"))) }
+{
+    if let Err(error) = push_text(out, b" :") {
+        return Err(error);
+    }
+    match push_outcomes(out, outcomes) {
+        Ok(()) => push_text(out, b"\n"),
+        Err(error) => Err(error),
+    }
 }
 
 // between spaces
@@ -98,15 +121,19 @@ fn push_op(out: &mut Vec<u8>, op: Op) -> Result<(), AllocError>
 fn push_named(out: &mut Vec<u8>, name: &[u8], byte: u64) -> Result<(), AllocError>
     ensures { OnOk result (out.new.items ≡ out.old.items ++ concat (name.now ∷ hex 2 byte ∷ [])) }
 {
-    push_text(out, name)?;
-    push_two(out, byte)
+    match push_text(out, name) {
+        Ok(()) => push_two(out, byte),
+        Err(error) => Err(error),
+    }
 }
 
 // a name and two bytes
 fn push_pair(out: &mut Vec<u8>, name: &[u8], one: u64, other: u64) -> Result<(), AllocError>
     ensures { OnOk result (out.new.items ≡ out.old.items ++ concat (name.now ∷ hex 2 one ∷ codes " " ∷ hex 2 other ∷ [])) }
 {
-    push_text(out, name)?;
+    if let Err(error) = push_text(out, name) {
+        return Err(error);
+    }
     out.extend_from_slice(&[
         digit(one / 16),
         digit(one),
@@ -120,48 +147,60 @@ fn push_pair(out: &mut Vec<u8>, name: &[u8], one: u64, other: u64) -> Result<(),
 fn push_count(out: &mut Vec<u8>, name: &[u8], number: u64) -> Result<(), AllocError>
     ensures { OnOk result (out.new.items ≡ out.old.items ++ concat (name.now ∷ decimal number ∷ [])) }
 {
-    push_text(out, name)?;
-    push_decimal(out, number)
+    match push_text(out, name) {
+        Ok(()) => push_decimal(out, number),
+        Err(error) => Err(error),
+    }
 }
 
 // a name and a number in decimal, with a space behind it
 fn push_place(out: &mut Vec<u8>, name: &[u8], place: u64) -> Result<(), AllocError>
     ensures { OnOk result (out.new.items ≡ out.old.items ++ concat (name.now ∷ decimal place ∷ codes " " ∷ [])) }
 {
-    push_count(out, name, place)?;
-    push_text(out, b" ")
+    match push_count(out, name, place) {
+        Ok(()) => push_text(out, b" "),
+        Err(error) => Err(error),
+    }
 }
 
 // a name, and a pin of the I/O APIC at a place
 fn push_pin(out: &mut Vec<u8>, name: &[u8], place: u64, pin: u64) -> Result<(), AllocError>
     ensures { OnOk result (out.new.items ≡ out.old.items ++ concat (name.now ∷ decimal place ∷ codes " " ∷ decimal pin ∷ [])) }
 {
-    push_place(out, name, place)?;
-    push_decimal(out, pin)
+    match push_place(out, name, place) {
+        Ok(()) => push_decimal(out, pin),
+        Err(error) => Err(error),
+    }
 }
 
 // the choice of a register of the I/O APIC at a place
 fn push_select(out: &mut Vec<u8>, place: u64, index: u64) -> Result<(), AllocError>
     ensures { OnOk result (out.new.items ≡ out.old.items ++ concat (codes "iosel " ∷ decimal place ∷ codes " " ∷ hex 2 index ∷ [])) }
 {
-    push_place(out, b"iosel ", place)?;
-    push_two(out, index)
+    match push_place(out, b"iosel ", place) {
+        Ok(()) => push_two(out, index),
+        Err(error) => Err(error),
+    }
 }
 
 // a value for the register that is chosen there
 fn push_window(out: &mut Vec<u8>, place: u64, value: u64) -> Result<(), AllocError>
     ensures { OnOk result (out.new.items ≡ out.old.items ++ concat (codes "iowin " ∷ decimal place ∷ codes " " ∷ hex 8 value ∷ [])) }
 {
-    push_place(out, b"iowin ", place)?;
-    push_hex(out, 8, value)
+    match push_place(out, b"iowin ", place) {
+        Ok(()) => push_hex(out, 8, value),
+        Err(error) => Err(error),
+    }
 }
 
 // a collection of pins
 fn push_collect(out: &mut Vec<u8>, pins: u64) -> Result<(), AllocError>
     ensures { OnOk result (out.new.items ≡ out.old.items ++ concat (codes "collect " ∷ hex 6 pins ∷ [])) }
 {
-    push_text(out, b"collect ")?;
-    push_six(out, pins)
+    match push_text(out, b"collect ") {
+        Ok(()) => push_six(out, pins),
+        Err(error) => Err(error),
+    }
 }
 
 fn push_outcomes(out: &mut Vec<u8>, outcomes: &[Outcome]) -> Result<(), AllocError>
@@ -253,16 +292,20 @@ fn push_what(out: &mut Vec<u8>, what: What) -> Result<(), AllocError>
 fn push_ended(out: &mut Vec<u8>, vector: u64, level: bool) -> Result<(), AllocError>
     ensures { OnOk result (out.new.items ≡ out.old.items ++ concat (codes "ended." ∷ hex 2 vector ∷ codes "." ∷ trigger_text level ∷ [])) }
 {
-    push_named(out, b"ended.", vector)?;
-    push_text(out, trigger_text(level))
+    match push_named(out, b"ended.", vector) {
+        Ok(()) => push_text(out, trigger_text(level)),
+        Err(error) => Err(error),
+    }
 }
 
 // the value of a register
 fn push_read(out: &mut Vec<u8>, value: u64) -> Result<(), AllocError>
     ensures { OnOk result (out.new.items ≡ out.old.items ++ concat (codes "read." ∷ hex 8 value ∷ [])) }
 {
-    push_text(out, b"read.")?;
-    push_hex(out, 8, value)
+    match push_text(out, b"read.") {
+        Ok(()) => push_hex(out, 8, value),
+        Err(error) => Err(error),
+    }
 }
 
 // the pins of a collection

@@ -5,8 +5,8 @@ ghost use Rattle.std.specs.List.{concat};
 ghost use Rattle.mpb_spec.specs.State.{processor_of};
 ghost use Rattle.mpb_board.specs.BoardView.{state_of};
 ghost use Rattle.mpb_report_spec.specs.Numbered.{numbered};
-ghost use Rattle.mpb_report_spec.specs.StateLines.{imcr_text, imcr_line, life_text, registers_text, cpu_line, processor_line, io_line, place_line, state_lines};
-ghost use Rattle.mpb_report.specs.Found.{found_cpu, found_io};
+ghost use Rattle.mpb_report_spec.specs.StateLines.{imcr_text, imcr_line, life_text, registers_text, members, vectors_text, cpu_line, processor_line, io_line, place_line, state_lines};
+ghost use Rattle.mpb_report.specs.Found.{register_of, found_cpu, found_io};
 
 use crate::parts::push_parts;
 use crate::vectors::{Register, push_register};
@@ -94,13 +94,28 @@ fn push_cpu_line(out: &mut Vec<u8>, id: u8, life: Life, lapic: &Lapic) -> Result
 fn push_registers(out: &mut Vec<u8>, lapic: &Lapic) -> Result<(), AllocError>
     ensures { OnOk result (out.new.items ≡ out.old.items ++ registers_text lapic.now) }
 {
-    push_text(out, b" irr ")?;
-    push_register(out, lapic, Register::Irr)?;
-    push_text(out, b" isr ")?;
-    push_register(out, lapic, Register::Isr)?;
-    push_text(out, b" tmr ")?;
-    push_register(out, lapic, Register::Tmr)?;
-    Ok(())
+    if let Err(error) = push_named_register(out, b" irr ", lapic, Register::Irr) {
+        return Err(error);
+    }
+    match push_named_register(out, b" isr ", lapic, Register::Isr) {
+        Ok(()) => push_named_register(out, b" tmr ", lapic, Register::Tmr),
+        Err(error) => Err(error),
+    }
+}
+
+// the vectors of a register behind its name
+fn push_named_register(
+    out: &mut Vec<u8>,
+    name: &[u8],
+    lapic: &Lapic,
+    register: Register,
+) -> Result<(), AllocError>
+    ensures { OnOk result (out.new.items ≡ out.old.items ++ (name.now ++ vectors_text (members (register_of register lapic.now)))) }
+{
+    match push_text(out, name) {
+        Ok(()) => push_register(out, lapic, register),
+        Err(error) => Err(error),
+    }
 }
 
 fn push_life(out: &mut Vec<u8>, life: Life) -> Result<(), AllocError>

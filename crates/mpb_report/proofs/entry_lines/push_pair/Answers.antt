@@ -10,7 +10,7 @@ returns c =
     let name = c.args.name.now in
     let digits = c.digit.result ∷ c.digit-2.result ∷ 32 ∷ c.digit-3.result ∷ c.digit-4.result ∷ [] in
     let piece = pair_piece name c.args.one c.args.other c.digit.result c.digit-2.result c.digit-3.result c.digit-4.result c.digit.ensures c.digit-2.ensures c.digit-3.ensures c.digit-4.ensures in
-    let named = c.in_ok-push_text.ensures in
+    let named = c.in_default.ensures in
     extended c.extend_from_slice.result c.extend_from_slice.new.self.items c.push_text.new.out.items digits (old ++ concat (name ∷ hex 2 c.args.one ∷ codes " " ∷ hex 2 c.args.other ∷ [])) c.extend_from_slice.ensures.items (
     ap (λ (t : List ℕ). t ++ digits) named ∙ append_assoc old name digits ∙ ap (λ (t : List ℕ). old ++ t) piece
     )
