@@ -45,6 +45,10 @@ pub text_begins_none : {X : Type 0} (view : X → List ℕ) (text line : List �
 text_begins_none {X} view text line None h = λ rest e. (let k : None ≡ Some rest = sym h ∙ ap (text_in text) e ∙ text_again text rest in absurd (cc (k)))
 text_begins_none {X} view text line (Some x) h = tt
 
+-- what was read, with its value and its rest by other names
+read_as : {A : Type 0} (o : Option (A × List ℕ)) (a b : A) (rest left : List ℕ) → o ≡ Some (a, rest) → a ≡ b → rest ≡ left → o ≡ Some (b, left)
+read_as o a b rest left is same ends = is ∙ (λ i. Some (same i, ends i))
+
 module _ {A : Type 0} {t : A → List ℕ} {V : A → Type 0} {r : List ℕ → Option (A × List ℕ)} (f : IsExact t V r) where
   pub after-exact : (word : List ℕ) → IsExact (λ a. word ++ t a) V (after word r)
   after-exact word = record {
@@ -68,8 +72,8 @@ module _ {A : Type 0} {t : A → List ℕ} {V : A → Type 0} {r : List ℕ → 
         let first : k.0.0 ≡ p.0 = ap (λ x. x.0.0) both_is in
         let second : m.0.0 ≡ p.1 = ap (λ x. x.0.1) both_is in
         let end : m.0.1 ≡ rest = ap (λ x. x.1) both_is in
-        let one : r line ≡ Some (p.0, k.0.1) = k.1 ∙ ap (λ a. Some (a, k.0.1)) first in
-        let two : s k.0.1 ≡ Some (p.1, rest) = m.1 ∙ ap (λ b. Some (b, m.0.1)) second ∙ ap (λ x. Some (p.1, x)) end in
+        let one : r line ≡ Some (p.0, k.0.1) = read_as (r line) k.0.0 p.0 k.0.1 k.0.1 k.1 first refl in
+        let two : s k.0.1 ≡ Some (p.1, rest) = read_as (s k.0.1) m.0.0 p.1 m.0.1 rest m.1 second end in
         let a = f.takes line p.0 k.0.1 one in
         let b = g.takes k.0.1 p.1 rest two in
         ((a.0, b.0), a.1 ∙ ap (λ x. t p.0 ++ x) b.1 ∙ sym (append_assoc (t p.0) (u p.1) rest));

@@ -45,10 +45,19 @@ fn read_base(line: &[u8]) -> Option<(Base, &[u8])>
 fn read_processor(line: &[u8]) -> Option<(Processor, &[u8])>
     ensures { Gives (λ x. (x.0, x.1.now)) result (processor_in line.now) }
 {
-    let (apic, rest) = read_u8_field(line, b"processor id ")?;
-    let (version, rest) = read_u8_field(rest, b" version ")?;
-    let (flags, rest) = read_u8_field(rest, b" flags ")?;
-    let ((signature, features, reserved), rest) = read_cpuid(rest)?;
+    let Some((apic, rest)) = read_u8_field(line, b"processor id ") else {
+        return None;
+    };
+    let Some((version, rest)) = read_u8_field(rest, b" version ") else {
+        return None;
+    };
+    let Some((flags, rest)) = read_u8_field(rest, b" flags ") else {
+        return None;
+    };
+    let Some((cpuid, rest)) = read_cpuid(rest) else {
+        return None;
+    };
+    let (signature, features, reserved) = cpuid;
     Some((
         Processor {
             apic,
@@ -68,11 +77,19 @@ fn read_cpuid(line: &[u8]) -> Option<((u32, u32, [u8; 8]), &[u8])>
         (both (field_in (codes " signature ") 8) (both (field_in (codes " features ") 8)
         (ended (bytes_field_in (codes " reserved ") 8))) line.now) }
 {
-    let (signature, rest) = read_u32_field(line, b" signature ")?;
-    let (features, rest) = read_u32_field(rest, b" features ")?;
+    let Some((signature, rest)) = read_u32_field(line, b" signature ") else {
+        return None;
+    };
+    let Some((features, rest)) = read_u32_field(rest, b" features ") else {
+        return None;
+    };
     let mut reserved = [0; 8];
-    let rest = read_bytes_field(&mut reserved, rest, b" reserved ")?;
-    let rest = read_end(rest)?;
+    let Some(rest) = read_bytes_field(&mut reserved, rest, b" reserved ") else {
+        return None;
+    };
+    let Some(rest) = read_end(rest) else {
+        return None;
+    };
     Some(((signature, features, reserved), rest))
 }
 
@@ -80,10 +97,16 @@ fn read_cpuid(line: &[u8]) -> Option<((u32, u32, [u8; 8]), &[u8])>
 fn read_bus(line: &[u8]) -> Option<(Bus, &[u8])>
     ensures { Gives (λ x. (x.0, x.1.now)) result (bus_in line.now) }
 {
-    let (id, rest) = read_u8_field(line, b"bus id ")?;
+    let Some((id, rest)) = read_u8_field(line, b"bus id ") else {
+        return None;
+    };
     let mut name = [0; 6];
-    let rest = read_quoted_field(&mut name, rest, b" name ")?;
-    let rest = read_end(rest)?;
+    let Some(rest) = read_quoted_field(&mut name, rest, b" name ") else {
+        return None;
+    };
+    let Some(rest) = read_end(rest) else {
+        return None;
+    };
     Some((Bus { id, name }, rest))
 }
 
@@ -91,11 +114,21 @@ fn read_bus(line: &[u8]) -> Option<(Bus, &[u8])>
 fn read_io_apic(line: &[u8]) -> Option<(IoApic, &[u8])>
     ensures { Gives (λ x. (x.0, x.1.now)) result (io_apic_in line.now) }
 {
-    let (id, rest) = read_u8_field(line, b"ioapic id ")?;
-    let (version, rest) = read_u8_field(rest, b" version ")?;
-    let (flags, rest) = read_u8_field(rest, b" flags ")?;
-    let (address, rest) = read_u32_field(rest, b" address ")?;
-    let rest = read_end(rest)?;
+    let Some((id, rest)) = read_u8_field(line, b"ioapic id ") else {
+        return None;
+    };
+    let Some((version, rest)) = read_u8_field(rest, b" version ") else {
+        return None;
+    };
+    let Some((flags, rest)) = read_u8_field(rest, b" flags ") else {
+        return None;
+    };
+    let Some((address, rest)) = read_u32_field(rest, b" address ") else {
+        return None;
+    };
+    let Some(rest) = read_end(rest) else {
+        return None;
+    };
     Some((
         IoApic {
             id,
@@ -112,14 +145,30 @@ fn read_io_apic(line: &[u8]) -> Option<(IoApic, &[u8])>
 fn read_interrupt<'a>(line: &'a [u8], word: &[u8]) -> Option<(IntEntry, &'a [u8])>
     ensures { Gives (λ x. (x.0, x.1.now)) result (interrupt_in word.now line.now) }
 {
-    let rest = read_part(line, word)?;
-    let (kind, rest) = read_u8_field(rest, b" kind ")?;
-    let (flags, rest) = read_u16_field(rest, b" flags ")?;
-    let (bus, rest) = read_u8_field(rest, b" bus ")?;
-    let (irq, rest) = read_u8_field(rest, b" irq ")?;
-    let (dest, rest) = read_u8_field(rest, b" dest ")?;
-    let (pin, rest) = read_u8_field(rest, b" pin ")?;
-    let rest = read_end(rest)?;
+    let Some(rest) = read_part(line, word) else {
+        return None;
+    };
+    let Some((kind, rest)) = read_u8_field(rest, b" kind ") else {
+        return None;
+    };
+    let Some((flags, rest)) = read_u16_field(rest, b" flags ") else {
+        return None;
+    };
+    let Some((bus, rest)) = read_u8_field(rest, b" bus ") else {
+        return None;
+    };
+    let Some((irq, rest)) = read_u8_field(rest, b" irq ") else {
+        return None;
+    };
+    let Some((dest, rest)) = read_u8_field(rest, b" dest ") else {
+        return None;
+    };
+    let Some((pin, rest)) = read_u8_field(rest, b" pin ") else {
+        return None;
+    };
+    let Some(rest) = read_end(rest) else {
+        return None;
+    };
     Some((
         IntEntry {
             kind,

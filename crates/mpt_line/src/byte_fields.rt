@@ -40,8 +40,12 @@ fn fill_plain<'a>(bytes: &mut [u8], line: &'a [u8]) -> Option<&'a [u8]>
 fn fill_quoted<'a>(bytes: &mut [u8], line: &'a [u8]) -> Option<&'a [u8]>
     ensures { Gives (λ rest. (bytes.new, rest.now)) result (quoted_in (length bytes.old) line.now) }
 {
-    let rest = read_part(line, b"\"")?;
-    let rest = fill_plain(bytes, rest)?;
+    let Some(rest) = read_part(line, b"\"") else {
+        return None;
+    };
+    let Some(rest) = fill_plain(bytes, rest) else {
+        return None;
+    };
     read_part(rest, b"\"")
 }
 

@@ -46,11 +46,21 @@ fn read_ext(alloc: Global, line: &[u8]) -> Result<Option<(Ext, &[u8])>, AllocErr
 fn read_space(line: &[u8]) -> Option<(Space, &[u8])>
     ensures { Gives (λ x. (x.0, x.1.now)) result (space_in line.now) }
 {
-    let (bus, rest) = read_u8_field(line, b"space bus ")?;
-    let (kind, rest) = read_u8_field(rest, b" kind ")?;
-    let (base, rest) = read_field(rest, b" base ", 16)?;
-    let (length, rest) = read_field(rest, b" length ", 16)?;
-    let rest = read_end(rest)?;
+    let Some((bus, rest)) = read_u8_field(line, b"space bus ") else {
+        return None;
+    };
+    let Some((kind, rest)) = read_u8_field(rest, b" kind ") else {
+        return None;
+    };
+    let Some((base, rest)) = read_field(rest, b" base ", 16) else {
+        return None;
+    };
+    let Some((length, rest)) = read_field(rest, b" length ", 16) else {
+        return None;
+    };
+    let Some(rest) = read_end(rest) else {
+        return None;
+    };
     Some((
         Space {
             bus,
@@ -66,12 +76,22 @@ fn read_space(line: &[u8]) -> Option<(Space, &[u8])>
 fn read_hierarchy(line: &[u8]) -> Option<(Hierarchy, &[u8])>
     ensures { Gives (λ x. (x.0, x.1.now)) result (hierarchy_in line.now) }
 {
-    let (bus, rest) = read_u8_field(line, b"hierarchy bus ")?;
-    let (info, rest) = read_u8_field(rest, b" info ")?;
-    let (parent, rest) = read_u8_field(rest, b" parent ")?;
+    let Some((bus, rest)) = read_u8_field(line, b"hierarchy bus ") else {
+        return None;
+    };
+    let Some((info, rest)) = read_u8_field(rest, b" info ") else {
+        return None;
+    };
+    let Some((parent, rest)) = read_u8_field(rest, b" parent ") else {
+        return None;
+    };
     let mut reserved = [0; 3];
-    let rest = read_bytes_field(&mut reserved, rest, b" reserved ")?;
-    let rest = read_end(rest)?;
+    let Some(rest) = read_bytes_field(&mut reserved, rest, b" reserved ") else {
+        return None;
+    };
+    let Some(rest) = read_end(rest) else {
+        return None;
+    };
     Some((
         Hierarchy {
             bus,
@@ -87,10 +107,18 @@ fn read_hierarchy(line: &[u8]) -> Option<(Hierarchy, &[u8])>
 fn read_modifier(line: &[u8]) -> Option<(Modifier, &[u8])>
     ensures { Gives (λ x. (x.0, x.1.now)) result (modifier_in line.now) }
 {
-    let (bus, rest) = read_u8_field(line, b"modifier bus ")?;
-    let (flags, rest) = read_u8_field(rest, b" flags ")?;
-    let (ranges, rest) = read_u32_field(rest, b" ranges ")?;
-    let rest = read_end(rest)?;
+    let Some((bus, rest)) = read_u8_field(line, b"modifier bus ") else {
+        return None;
+    };
+    let Some((flags, rest)) = read_u8_field(rest, b" flags ") else {
+        return None;
+    };
+    let Some((ranges, rest)) = read_u32_field(rest, b" ranges ") else {
+        return None;
+    };
+    let Some(rest) = read_end(rest) else {
+        return None;
+    };
     Some((Modifier { bus, flags, ranges }, rest))
 }
 

@@ -40,8 +40,12 @@ fn read_digit(line: &[u8]) -> Option<(u8, &[u8])>
     ensures value { Gives (λ x. (x.0, x.1.now)) result (digit_in line.now) }
     ensures bound { IfSome result (λ x. x.0 < 16) }
 {
-    let (first, rest) = line.split_first()?;
-    let digit = digit_of(*first)?;
+    let Some((first, rest)) = line.split_first() else {
+        return None;
+    };
+    let Some(digit) = digit_of(*first) else {
+        return None;
+    };
     Some((digit, rest))
 }
 
@@ -55,8 +59,12 @@ fn read_hex(line: &[u8], digits: u32) -> Option<(u64, &[u8])>
     if digits == 0 {
         return Some((0, line));
     }
-    let (high, rest) = read_hex(line, digits - 1)?;
-    let (low, rest) = read_digit(rest)?;
+    let Some((high, rest)) = read_hex(line, digits - 1) else {
+        return None;
+    };
+    let Some((low, rest)) = read_digit(rest) else {
+        return None;
+    };
     Some((16 * high + u64::from(low), rest))
 }
 
@@ -73,9 +81,15 @@ pub fn read_byte(line: &[u8]) -> Option<(u8, &[u8])>
 fn read_pair(line: &[u8]) -> Option<(u8, &[u8])>
     ensures { Gives (λ x. (x.0, x.1.now)) result (pair_in line.now) }
 {
-    let (high, rest) = line.split_first()?;
-    let (low, rest) = rest.split_first()?;
-    let byte = byte_of(*high, *low)?;
+    let Some((high, rest)) = line.split_first() else {
+        return None;
+    };
+    let Some((low, rest)) = rest.split_first() else {
+        return None;
+    };
+    let Some(byte) = byte_of(*high, *low) else {
+        return None;
+    };
     Some((byte, rest))
 }
 
@@ -160,8 +174,12 @@ pub(crate) fn read_quoted_byte(line: &[u8]) -> Option<(u8, &[u8])>
 fn read_escaped(line: &[u8]) -> Option<(u8, &[u8])>
     ensures { Gives (λ x. (x.0, x.1.now)) result (escaped_in line.now) }
 {
-    let rest = read_part(line, b"\\x")?;
-    let (byte, rest) = read_byte(rest)?;
+    let Some(rest) = read_part(line, b"\\x") else {
+        return None;
+    };
+    let Some((byte, rest)) = read_byte(rest) else {
+        return None;
+    };
     if is_plain(byte) {
         None
     } else {

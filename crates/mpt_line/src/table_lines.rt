@@ -34,12 +34,22 @@ pub fn read_header_line(text: &[u8]) -> Option<(HeaderLine, &[u8])>
 fn read_pointer(line: &[u8]) -> Option<(PointerLine, &[u8])>
     ensures { Gives (λ x. (x.0, x.1.now)) result (pointer_in line.now) }
 {
-    let (at, rest) = read_field(line, b"pointer at ", 8)?;
-    let (address, rest) = read_u32_field(rest, b" table ")?;
-    let (revision, rest) = read_u8_field(rest, b" revision ")?;
+    let Some((at, rest)) = read_field(line, b"pointer at ", 8) else {
+        return None;
+    };
+    let Some((address, rest)) = read_u32_field(rest, b" table ") else {
+        return None;
+    };
+    let Some((revision, rest)) = read_u8_field(rest, b" revision ") else {
+        return None;
+    };
     let mut features = [0; 5];
-    let rest = read_bytes_field(&mut features, rest, b" features ")?;
-    let rest = read_end(rest)?;
+    let Some(rest) = read_bytes_field(&mut features, rest, b" features ") else {
+        return None;
+    };
+    let Some(rest) = read_end(rest) else {
+        return None;
+    };
     let pointer = Pointer {
         address,
         revision,
@@ -66,12 +76,20 @@ fn is_right(line: &PointerLine) -> bool
 fn read_header(line: &[u8]) -> Option<(HeaderLine, &[u8])>
     ensures { Gives (λ x. (x.0, x.1.now)) result (header_in line.now) }
 {
-    let (revision, rest) = read_u8_field(line, b"header revision ")?;
+    let Some((revision, rest)) = read_u8_field(line, b"header revision ") else {
+        return None;
+    };
     let mut oem = [0; 8];
-    let rest = read_quoted_field(&mut oem, rest, b" oem ")?;
+    let Some(rest) = read_quoted_field(&mut oem, rest, b" oem ") else {
+        return None;
+    };
     let mut product = [0; 12];
-    let rest = read_quoted_field(&mut product, rest, b" product ")?;
-    let ((oem_table, oem_size, local_address, end), rest) = read_numbers(rest)?;
+    let Some(rest) = read_quoted_field(&mut product, rest, b" product ") else {
+        return None;
+    };
+    let Some(((oem_table, oem_size, local_address, end), rest)) = read_numbers(rest) else {
+        return None;
+    };
     let header = HeaderLine {
         revision,
         oem,
@@ -105,11 +123,21 @@ fn read_numbers(line: &[u8]) -> Option<((u32, u16, u32, HeaderEnd), &[u8])>
         (both (field_in (codes " oemtable ") 8) (both (field_in (codes " oemsize ") 4)
         (both (field_in (codes " local ") 8) (ended end_in))) line.now) }
 {
-    let (oem_table, rest) = read_u32_field(line, b" oemtable ")?;
-    let (oem_size, rest) = read_u16_field(rest, b" oemsize ")?;
-    let (local_address, rest) = read_u32_field(rest, b" local ")?;
-    let (end, rest) = read_header_end(rest)?;
-    let rest = read_end(rest)?;
+    let Some((oem_table, rest)) = read_u32_field(line, b" oemtable ") else {
+        return None;
+    };
+    let Some((oem_size, rest)) = read_u16_field(rest, b" oemsize ") else {
+        return None;
+    };
+    let Some((local_address, rest)) = read_u32_field(rest, b" local ") else {
+        return None;
+    };
+    let Some((end, rest)) = read_header_end(rest) else {
+        return None;
+    };
+    let Some(rest) = read_end(rest) else {
+        return None;
+    };
     Some(((oem_table, oem_size, local_address, end), rest))
 }
 
