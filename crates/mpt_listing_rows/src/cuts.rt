@@ -1,7 +1,7 @@
 //! Listings that end anywhere, or of which one byte is another.
 
 use crate::harness::{Answer, answer_to, same};
-use crate::texts::{DEFAULT, EVERY_FORM, ONE_PROCESSOR, USUAL_BOARD};
+use crate::texts::all_texts;
 use std::alloc::Global;
 use std::process::Abort;
 
@@ -36,7 +36,7 @@ fn same_cuts(rt: &impl Abort, alloc: Global, text: &[u8]) {
 
 #[test]
 fn cut_at_each_byte(rt: HostRuntime) {
-    for text in [ONE_PROCESSOR, DEFAULT, USUAL_BOARD, EVERY_FORM] {
+    for text in all_texts() {
         same_cuts(&rt, rt.alloc(), text);
     }
 }
@@ -75,7 +75,7 @@ fn put(text: &mut [u8], place: usize, byte: u8) {
 
 #[test]
 fn one_wrong_byte_anywhere(rt: HostRuntime) {
-    for text in [ONE_PROCESSOR, DEFAULT, USUAL_BOARD, EVERY_FORM] {
+    for text in all_texts() {
         same_wrong_bytes(&rt, rt.alloc(), text);
     }
 }

@@ -1,4 +1,7 @@
-//! Listings read back: rows whose answers were worked out by hand from the format. It holds tests alone.
+//! Rows whose answers were worked out by hand from the format: listings read back; and tables of either revision
+//! under a floating pointer of either, read from an image and by windows of a file, listed, audited, made
+//! canonical, raised, and built from their listing. It holds tests alone, so that no crate is proved twice for
+//! their sake.
 #![tactic(auto)]
 
 #[cfg(test)]
@@ -9,6 +12,14 @@ mod harness;
 mod lines;
 #[cfg(test)]
 mod places;
+#[cfg(test)]
+mod revision_faults;
+#[cfg(test)]
+mod revision_images;
+#[cfg(test)]
+mod revision_rows;
+#[cfg(test)]
+mod revisions;
 #[cfg(test)]
 mod texts;
 #[cfg(test)]

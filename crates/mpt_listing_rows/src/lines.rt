@@ -1,7 +1,7 @@
 //! Lines of each kind that are right or wrong in one place.
 
 use crate::harness::{Answer, Row, same_answers};
-use crate::texts::{EVERY_FORM, USUAL_BOARD};
+use crate::texts::{every_form_text, usual_board_text};
 
 const HEADS: &[Row] = &[
     Row {
@@ -416,9 +416,9 @@ const ENDS: &[Row] = &[
 
 #[test]
 fn lines_of_each_kind(rt: HostRuntime) {
-    same_answers(&rt, rt.alloc(), EVERY_FORM, HEADS);
-    same_answers(&rt, rt.alloc(), EVERY_FORM, QUOTED);
-    same_answers(&rt, rt.alloc(), EVERY_FORM, ENTRIES);
-    same_answers(&rt, rt.alloc(), EVERY_FORM, OPAQUE);
-    same_answers(&rt, rt.alloc(), USUAL_BOARD, ENDS);
+    same_answers(&rt, rt.alloc(), every_form_text(), HEADS);
+    same_answers(&rt, rt.alloc(), every_form_text(), QUOTED);
+    same_answers(&rt, rt.alloc(), every_form_text(), ENTRIES);
+    same_answers(&rt, rt.alloc(), every_form_text(), OPAQUE);
+    same_answers(&rt, rt.alloc(), usual_board_text(), ENDS);
 }

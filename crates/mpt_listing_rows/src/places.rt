@@ -1,7 +1,7 @@
 //! Tables at each bound of an image of 1 MiB, and parts at the bound of what 16 bits can say.
 
 use crate::harness::{Answer, Row, answer_to, same, same_answers};
-use crate::texts::{DEFAULT, ONE_PROCESSOR, USUAL_BOARD};
+use crate::texts::{default_text, one_processor_text, usual_board_text};
 use std::alloc::{AllocError, Global};
 use std::process::Abort;
 
@@ -160,9 +160,9 @@ const NO_BLOCK: &[Row] = &[
 
 #[test]
 fn places_at_each_bound(rt: HostRuntime) {
-    same_answers(&rt, rt.alloc(), ONE_PROCESSOR, BLOCK);
-    same_answers(&rt, rt.alloc(), USUAL_BOARD, USUAL);
-    same_answers(&rt, rt.alloc(), DEFAULT, NO_BLOCK);
+    same_answers(&rt, rt.alloc(), one_processor_text(), BLOCK);
+    same_answers(&rt, rt.alloc(), usual_board_text(), USUAL);
+    same_answers(&rt, rt.alloc(), default_text(), NO_BLOCK);
 }
 
 /// What stands before the entries of a large table, which begins at 500h.

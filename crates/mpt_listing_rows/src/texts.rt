@@ -1,7 +1,7 @@
-//! The listings that the rows start from.
+//! The listings that the rows start from, each by a function: a constant is proved anew wherever it is named.
 
 /// A table of one processor, with the floating pointer at F0000h: a block of 64 bytes.
-pub(crate) const ONE_PROCESSOR: &[u8] = b"mptable 1
+const ONE_PROCESSOR: &[u8] = b"mptable 1
 pointer at 000F0000 table 000F0010 revision 04 features 0000000000
 header revision 04 oem \"MPTAB   \" product \"BOARD       \" oemtable 00000000 oemsize 0000 local FEE00000 reserved 00
 processor id 00 version 10 flags 03 signature 00000520 features 000001BF reserved 0000000000000000
@@ -9,13 +9,13 @@ end
 ";
 
 /// A default configuration.
-pub(crate) const DEFAULT: &[u8] = b"mptable 1
+const DEFAULT: &[u8] = b"mptable 1
 pointer at 0009FC00 table 00000000 revision 04 features 0580000001
 end
 ";
 
 /// A usual board of two processors: 28 lines, a block of 260 bytes.
-pub(crate) const USUAL_BOARD: &[u8] = b"mptable 1
+const USUAL_BOARD: &[u8] = b"mptable 1
 pointer at 000F0000 table 000F0010 revision 04 features 0000000000
 header revision 04 oem \"MPTAB   \" product \"BOARD       \" oemtable 00000000 oemsize 0000 local FEE00000 reserved 00
 processor id 00 version 14 flags 03 signature 00000600 features 00000201 reserved 0000000000000000
@@ -46,7 +46,7 @@ end
 ";
 
 /// A line of each form: 14 lines.
-pub(crate) const EVERY_FORM: &[u8] = b"mptable 1
+const EVERY_FORM: &[u8] = b"mptable 1
 pointer at 000F0000 table 000E0000 revision 04 features 0080FF0001
 header revision 04 oem \"OEM \\x1F ~\\x80\" product \"a'b\\x22c\\x5Cd\\x0Aef g\" oemtable 00ABCDEF oemsize 03A0 local FEE00000 reserved 5A
 processor id 1E version 14 flags 82 signature DEADBEEF features 12345678 reserved 01020304A50607F8
@@ -61,3 +61,33 @@ opaque kind 83 rest -
 opaque kind FF rest 0FA022
 end
 ";
+
+/// A table of one processor, with the floating pointer at F0000h: a block of 64 bytes.
+pub(crate) fn one_processor_text() -> &'static [u8] {
+    ONE_PROCESSOR
+}
+
+/// A default configuration.
+pub(crate) fn default_text() -> &'static [u8] {
+    DEFAULT
+}
+
+/// A usual board of two processors: 28 lines, a block of 260 bytes.
+pub(crate) fn usual_board_text() -> &'static [u8] {
+    USUAL_BOARD
+}
+
+/// A line of each form: 14 lines.
+pub(crate) fn every_form_text() -> &'static [u8] {
+    EVERY_FORM
+}
+
+/// All four.
+pub(crate) fn all_texts() -> [&'static [u8]; 4] {
+    [
+        one_processor_text(),
+        default_text(),
+        usual_board_text(),
+        every_form_text(),
+    ]
+}

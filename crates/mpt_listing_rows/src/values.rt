@@ -1,7 +1,7 @@
 //! Listings that are accepted: the tables that they say, and their text again.
 
 use crate::harness::{same, tables_of};
-use crate::texts::{DEFAULT, EVERY_FORM, ONE_PROCESSOR, USUAL_BOARD};
+use crate::texts::{all_texts, default_text, every_form_text};
 use mpt_listing::print;
 use mpt_spec::{
     Base, Body, Bus, Ext, Hierarchy, IntEntry, IoApic, Modifier, Pointer, Processor, Space, Table,
@@ -23,14 +23,14 @@ fn same_again(rt: &impl Abort, alloc: Global, text: &[u8]) {
 
 #[test]
 fn texts_come_again(rt: HostRuntime) {
-    for text in [ONE_PROCESSOR, DEFAULT, USUAL_BOARD, EVERY_FORM] {
+    for text in all_texts() {
         same_again(&rt, rt.alloc(), text);
     }
 }
 
 #[test]
 fn default_configuration(rt: HostRuntime) -> Result<(), Fail> {
-    let tables = tables_of(rt.alloc(), DEFAULT)?;
+    let tables = tables_of(rt.alloc(), default_text())?;
     same(&rt, "the place", tables.at, 0x9FC00);
     let pointer = Pointer {
         address: 0,
@@ -158,7 +158,7 @@ fn same_table(rt: &impl Abort, table: &Table) {
 
 #[test]
 fn every_form(rt: HostRuntime) -> Result<(), Fail> {
-    let tables = tables_of(rt.alloc(), EVERY_FORM)?;
+    let tables = tables_of(rt.alloc(), every_form_text())?;
     same(&rt, "the place", tables.at, 0xF0000);
     let pointer = Pointer {
         address: 0xE0000,

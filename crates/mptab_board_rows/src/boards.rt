@@ -1,7 +1,7 @@
 //! Boards that tables and a script don't describe, each cause alone, beside the nearest that they do; how many
 //! processors and I/O APICs a board has, at each limit on both sides.
 
-use crate::harness::{BOTH, Row, first_wrong, same};
+use crate::harness::{BOTH, Row, are_answered};
 use crate::tables::{Entry, Tables};
 use std::test::Fail;
 
@@ -458,15 +458,18 @@ entries 4
     },
 ];
 
+/// All of them.
+const CAUSES: &[(&str, &[Row])] = &[
+    ("ids", IDS),
+    ("present processors", PRESENT),
+    ("places", PLACES),
+    ("limits", LIMITS),
+];
+
 #[test]
 fn causes_alone(rt: HostRuntime) -> Result<(), Fail> {
-    let wrong = first_wrong(&rt, rt.alloc(), BOTH, IDS)?;
-    same(&rt, "ids", wrong, None);
-    let wrong = first_wrong(&rt, rt.alloc(), BOTH, PRESENT)?;
-    same(&rt, "present processors", wrong, None);
-    let wrong = first_wrong(&rt, rt.alloc(), BOTH, PLACES)?;
-    same(&rt, "places", wrong, None);
-    let wrong = first_wrong(&rt, rt.alloc(), BOTH, LIMITS)?;
-    same(&rt, "limits", wrong, None);
+    for (name, rows) in CAUSES {
+        are_answered(&rt, rt.alloc(), BOTH, name, rows)?;
+    }
     Ok(())
 }

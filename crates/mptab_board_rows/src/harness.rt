@@ -25,6 +25,9 @@ pub(crate) const BOTH: &[&str] = &["trace", "boot"];
 /// One processor.
 pub(crate) const ONE: Tables = Tables::Listed(&[Entry::Boot(0)], "");
 
+/// What is answered to words that are no form.
+pub(crate) const USAGE: &str = "mptab: usage\n";
+
 /// The report of one processor without words.
 pub(crate) const NOTHING: &str = "mpboot 1
 entries 0
@@ -47,6 +50,13 @@ pub(crate) struct Row {
     pub(crate) text: &'static str,
 }
 
+/// Words, and the status and text that answer them.
+pub(crate) struct Case {
+    pub(crate) words: &'static [&'static str],
+    pub(crate) status: u8,
+    pub(crate) text: &'static str,
+}
+
 /// A status, and what was written.
 #[derive(Drop)]
 pub(crate) struct Answer {
@@ -55,6 +65,12 @@ pub(crate) struct Answer {
 }
 
 impl Answer {
+    /// This status, with what the sink holds.
+    pub(crate) fn with(alloc: Global, status: u8, sink: &MemSink) -> Result<Answer, Fail> {
+        let text = Vec::from_slice(alloc, sink.bytes())?;
+        Ok(Answer { status, text })
+    }
+
     /// Whether it is this status with this text; where the text is no whole report, with a whole report that
     /// begins with it.
     pub(crate) fn is(&self, status: u8, text: &str) -> bool {
@@ -83,6 +99,13 @@ pub(crate) fn words_of(alloc: Global, words: &[&str]) -> Result<Vec<String>, Fai
     Ok(owned)
 }
 
+/// A sink whose put of this number fails; 0 is none.
+pub(crate) fn sink_of(alloc: Global, failing: u64) -> Result<MemSink, Fail> {
+    let mut sink = MemSink::new(alloc, ROOM)?;
+    sink.fail(failing)?;
+    Ok(sink)
+}
+
 /// The answer to these words. The put of this number fails; 0 is none.
 pub(crate) fn answer_of<R: Threads + Wait + Sync>(
     rt: &R,
@@ -92,31 +115,41 @@ pub(crate) fn answer_of<R: Threads + Wait + Sync>(
     failing: u64,
 ) -> Result<Answer, Fail> {
     let owned = words_of(alloc, words)?;
-    let mut sink = MemSink::new(alloc, ROOM)?;
-    sink.fail(failing)?;
+    let mut sink = sink_of(alloc, failing)?;
     let status = run(rt, alloc, owned.as_slice(), shelf, &mut sink);
-    let text = Vec::from_slice(alloc, sink.bytes())?;
-    Ok(Answer { status, text })
+    Answer::with(alloc, status, &sink)
 }
 
-/// A shelf with the listing of these tables.
-fn listed(alloc: Global, tables: &Tables) -> Result<MemShelf, Fail> {
-    let listing = listing_of(alloc, tables)?;
+/// The answer to these words by the call that starts no thread.
+fn still_answer(alloc: Global, words: &[&str], shelf: &mut MemShelf) -> Result<Answer, Fail> {
+    let owned = words_of(alloc, words)?;
+    let mut sink = sink_of(alloc, 0)?;
+    let status = run_still(alloc, owned.as_slice(), shelf, &mut sink);
+    Answer::with(alloc, status, &sink)
+}
+
+/// The image that `build` makes of this listing.
+fn built(alloc: Global, listing: &str) -> Result<Vec<u8>, Fail> {
     let mut shelf = MemShelf::new(alloc);
-    shelf.add("list", listing.as_str().as_bytes())?;
-    Ok(shelf)
-}
-
-/// A shelf with this script and with the image that `build` makes of these tables.
-pub(crate) fn shelf_of(alloc: Global, tables: &Tables, script: &[u8]) -> Result<MemShelf, Fail> {
-    let mut shelf = listed(alloc, tables)?;
-    let words = words_of(alloc, &["build", "list"])?;
-    let mut sink = MemSink::new(alloc, ROOM)?;
-    if run_still(alloc, words.as_slice(), &mut shelf, &mut sink) != 0 {
+    shelf.add("list", listing.as_bytes())?;
+    let image = still_answer(alloc, &["build", "list"], &mut shelf)?;
+    if image.status != 0 {
         return Err("the tables of a row aren't built".into());
     }
+    Ok(image.text)
+}
+
+/// The image of these tables.
+fn image_of(alloc: Global, tables: &Tables) -> Result<Vec<u8>, Fail> {
+    let listing = listing_of(alloc, tables)?;
+    built(alloc, listing.as_str())
+}
+
+/// A shelf with this script and with the image of these tables.
+pub(crate) fn shelf_of(alloc: Global, tables: &Tables, script: &[u8]) -> Result<MemShelf, Fail> {
+    let image = image_of(alloc, tables)?;
     let mut shelf = MemShelf::new(alloc);
-    shelf.add(IMAGE, sink.bytes())?;
+    shelf.add(IMAGE, image.as_slice())?;
     shelf.add(SCRIPT, script)?;
     Ok(shelf)
 }
@@ -145,6 +178,38 @@ fn is_legal<R: Threads + Wait + Sync>(
     Ok(answer.status == 0 && verdict.is(0, "replay legal\n"))
 }
 
+/// Whether a boot over the image and the script on the shelf ends in a report that is judged legal.
+pub(crate) fn boots_legally<R: Threads + Wait + Sync>(
+    rt: &R,
+    alloc: Global,
+    shelf: &mut MemShelf,
+) -> Result<bool, Fail> {
+    let answer = answer_of(rt, alloc, &["boot", IMAGE, SCRIPT], shelf, 0)?;
+    is_legal(rt, alloc, &answer, shelf)
+}
+
+/// Whether a command over the image and the script on the shelf is answered by this status with this text.
+fn answers_over<R: Threads + Wait + Sync>(
+    rt: &R,
+    alloc: Global,
+    command: &str,
+    row: &Row,
+    shelf: &mut MemShelf,
+) -> Result<bool, Fail> {
+    let answer = answer_of(rt, alloc, &[command, IMAGE, SCRIPT], shelf, 0)?;
+    Ok(answer.is(row.status, row.text))
+}
+
+/// Whether `boot` answers as the row says, word for word.
+pub(crate) fn boots_so<R: Threads + Wait + Sync>(
+    rt: &R,
+    alloc: Global,
+    row: &Row,
+) -> Result<bool, Fail> {
+    let mut shelf = shelf_of(alloc, &row.tables, row.script.as_bytes())?;
+    answers_over(rt, alloc, "boot", row, &mut shelf)
+}
+
 /// Whether a command answers as the row says. A boot has many reports: one with status 0 has to be legal.
 fn answers<R: Threads + Wait + Sync>(
     rt: &R,
@@ -153,11 +218,10 @@ fn answers<R: Threads + Wait + Sync>(
     row: &Row,
 ) -> Result<bool, Fail> {
     let mut shelf = shelf_of(alloc, &row.tables, row.script.as_bytes())?;
-    let answer = answer_of(rt, alloc, &[command, IMAGE, SCRIPT], &mut shelf, 0)?;
     if command == "boot" && row.status == 0 {
-        is_legal(rt, alloc, &answer, &mut shelf)
+        boots_legally(rt, alloc, &mut shelf)
     } else {
-        Ok(answer.is(row.status, row.text))
+        answers_over(rt, alloc, command, row, &mut shelf)
     }
 }
 
@@ -177,7 +241,7 @@ fn is_answered<R: Threads + Wait + Sync>(
 }
 
 /// The name of the first row to which one of these commands has another answer.
-pub(crate) fn first_wrong<R: Threads + Wait + Sync>(
+fn first_wrong<R: Threads + Wait + Sync>(
     rt: &R,
     alloc: Global,
     commands: &[&str],
@@ -189,6 +253,43 @@ pub(crate) fn first_wrong<R: Threads + Wait + Sync>(
         }
     }
     Ok(None)
+}
+
+/// Asserts that each of these commands answers each row as it says.
+pub(crate) fn are_answered<R: Threads + Wait + Sync + Abort>(
+    rt: &R,
+    alloc: Global,
+    commands: &[&str],
+    name: &str,
+    rows: &[Row],
+) -> Result<(), Fail> {
+    let wrong = first_wrong(rt, alloc, commands, rows)?;
+    same(rt, name, wrong, None);
+    Ok(())
+}
+
+/// Whether `trace` answers as the row says, by the call that starts no thread.
+fn is_traced(alloc: Global, row: &Row) -> Result<bool, Fail> {
+    let mut shelf = shelf_of(alloc, &row.tables, row.script.as_bytes())?;
+    let answer = still_answer(alloc, &["trace", IMAGE, SCRIPT], &mut shelf)?;
+    Ok(answer.is(row.status, row.text))
+}
+
+/// The name of the first row to which `trace` has another answer.
+fn first_wrong_trace(alloc: Global, rows: &[Row]) -> Result<Option<&'static str>, Fail> {
+    for row in rows {
+        if !is_traced(alloc, row)? {
+            return Ok(Some(row.name));
+        }
+    }
+    Ok(None)
+}
+
+/// Asserts that `trace` answers each row as it says.
+pub(crate) fn are_traced(rt: &impl Abort, alloc: Global, rows: &[Row]) -> Result<(), Fail> {
+    let wrong = first_wrong_trace(alloc, rows)?;
+    same(rt, "the first row with another report", wrong, None);
+    Ok(())
 }
 
 /// The script with this word so many times for processor 0, and a comment that fills it up to a size.

@@ -1,6 +1,6 @@
 //! Two causes that stand together: the one that is told.
 
-use crate::harness::{BOTH, Row, first_wrong, same};
+use crate::harness::{BOTH, Row, are_answered};
 use crate::tables::{Entry, Tables};
 use std::test::Fail;
 
@@ -125,7 +125,5 @@ cpu = [{ id = 1, words = [\"ioread 0\"] }]
 
 #[test]
 fn first_of_two_causes(rt: HostRuntime) -> Result<(), Fail> {
-    let wrong = first_wrong(&rt, rt.alloc(), BOTH, PAIRS)?;
-    same(&rt, "the first wrong row", wrong, None);
-    Ok(())
+    are_answered(&rt, rt.alloc(), BOTH, "the first wrong row", PAIRS)
 }

@@ -1,7 +1,7 @@
 //! Boot programs: of each default configuration, of boards whose reports were worked out whole, and of a
 //! usual board.
 
-use crate::harness::{BOTH, Row, first_wrong, same};
+use crate::harness::{BOTH, Row, are_answered};
 use crate::tables::{Entry, Tables};
 use std::test::Fail;
 
@@ -356,13 +356,17 @@ present = [1]
     },
 ];
 
+/// All of them.
+const PROGRAMS: &[(&str, &[Row])] = &[
+    ("default configurations", DEFAULTS),
+    ("whole reports", WRITTEN),
+    ("the usual board", OF_USUAL),
+];
+
 #[test]
 fn boot_programs(rt: HostRuntime) -> Result<(), Fail> {
-    let wrong = first_wrong(&rt, rt.alloc(), BOTH, DEFAULTS)?;
-    same(&rt, "default configurations", wrong, None);
-    let wrong = first_wrong(&rt, rt.alloc(), BOTH, WRITTEN)?;
-    same(&rt, "whole reports", wrong, None);
-    let wrong = first_wrong(&rt, rt.alloc(), BOTH, OF_USUAL)?;
-    same(&rt, "the usual board", wrong, None);
+    for (name, rows) in PROGRAMS {
+        are_answered(&rt, rt.alloc(), BOTH, name, rows)?;
+    }
     Ok(())
 }

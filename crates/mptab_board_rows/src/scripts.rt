@@ -1,6 +1,6 @@
 //! Scripts that are refused, each key and each word's cause, and scripts at their limits.
 
-use crate::harness::{Answer, BOTH, NOTHING, ONE, Row, answer_to, first_wrong, same, script_of};
+use crate::harness::{BOTH, NOTHING, ONE, Row, answer_to, are_answered, same, script_of};
 use crate::tables::{Entry, Tables};
 use std::alloc::Global;
 use std::sync::Wait;
@@ -162,13 +162,13 @@ device = [{ words = [\"take\"] }]
 
 #[test]
 fn scripts_that_are_refused(rt: HostRuntime) -> Result<(), Fail> {
-    let wrong = first_wrong(&rt, rt.alloc(), BOTH, REFUSED)?;
-    same(&rt, "the first wrong row", wrong, None);
-    Ok(())
+    are_answered(&rt, rt.alloc(), BOTH, "the first wrong row", REFUSED)
 }
 
 /// How many words a script has, and to how many bytes it is filled up; the answer.
-const SIZES: &[(usize, usize, u8, &str)] = &[
+type Size = (usize, usize, u8, &'static str);
+
+const SIZES: &[Size] = &[
     (
         8192,
         0,
@@ -180,22 +180,29 @@ const SIZES: &[(usize, usize, u8, &str)] = &[
     (0, 1_048_577, 10, "mptab: too large boot.toml 1048577\n"),
 ];
 
-/// The answer to one processor with so many words, where the script is filled up to so many bytes.
-fn answer_to_size<R: Threads + Wait + Sync>(
+/// Whether `trace` answers so to one processor with this script.
+fn is_traced<R: Threads + Wait + Sync>(
     rt: &R,
     alloc: Global,
-    words: usize,
-    bytes: usize,
-) -> Result<Answer, Fail> {
-    let script = script_of(alloc, "\"eoi\",", words, bytes)?;
-    answer_to(rt, alloc, "trace", &ONE, script.as_slice())
+    script: &[u8],
+    status: u8,
+    text: &str,
+) -> Result<bool, Fail> {
+    let answer = answer_to(rt, alloc, "trace", &ONE, script)?;
+    Ok(answer.is(status, text))
+}
+
+/// Whether `trace` answers as a row says.
+fn is_right<R: Threads + Wait + Sync>(rt: &R, alloc: Global, size: &Size) -> Result<bool, Fail> {
+    let script = script_of(alloc, "\"eoi\",", size.0, size.1)?;
+    is_traced(rt, alloc, script.as_slice(), size.2, size.3)
 }
 
 #[test]
 fn sizes_of_scripts(rt: HostRuntime) -> Result<(), Fail> {
-    for (words, bytes, status, text) in SIZES {
-        let answer = answer_to_size(&rt, rt.alloc(), *words, *bytes)?;
-        assert!(rt; answer.is(*status, text), "{words} words, {bytes} bytes");
+    for size in SIZES {
+        let right = is_right(&rt, rt.alloc(), size)?;
+        same(&rt, size.3, right, true);
     }
     Ok(())
 }

@@ -1,17 +1,10 @@
 //! Whole reports that were worked out by hand: processors that start or don't, an edge pin that three devices
 //! pulse, a level pin that is sent again, messages to logical destinations and of lowest priority.
 
-use crate::harness::{BOTH, Row, answer_to, first_wrong, same};
+use crate::harness::{BOTH, Row, are_answered, boots_so, same};
 use crate::tables::{Entry, Tables};
+use crate::three_pulses::{ONE_PIN, THREE_PULSES, THREE_PULSES_SCRIPT};
 use std::test::Fail;
-
-/// One processor, and an ISA source at INTIN 1 of one I/O APIC.
-const ONE_PIN: Tables = Tables::Listed(
-    &[Entry::Boot(0), Entry::Io(1)],
-    "bus id 00 name \"ISA   \"
-ioint kind 00 flags 0000 bus 00 irq 01 dest 01 pin 01
-",
-);
 
 /// One processor, and a PCI source at INTIN 16 of one I/O APIC: level, low.
 const LEVEL_PIN: Tables = Tables::Listed(
@@ -20,39 +13,6 @@ const LEVEL_PIN: Tables = Tables::Listed(
 ioint kind 00 flags 0000 bus 00 irq 00 dest 01 pin 10
 ",
 );
-
-/// Three devices that pulse that pin once each, and a processor that takes one interrupt and ends it.
-const THREE_PULSES_SCRIPT: &str = "page = 0x9F
-cpu = [{ id = 0, words = [\"take\", \"eoi\"] }]
-device = [{ words = [\"pulse 0 1\"] }, { words = [\"pulse 0 1\"] }, { words = [\"pulse 0 1\"] }]
-";
-
-/// What three devices make of one pin, taken and ended.
-const THREE_PULSES: &str = "mpboot 1
-entries 15
-0 cpu 00 iosel 0 13 : done
-1 cpu 00 iowin 0 00000000 : plain
-2 cpu 00 iosel 0 12 : done
-3 cpu 00 iowin 0 00000021 : plain
-4 dev 0 begin : done
-5 dev 1 begin : done
-6 dev 2 begin : done
-7 io 0 collect 000002 : pins.000002.000000
-8 dev 0 end : done
-9 dev 1 end : done
-10 dev 2 end : done
-11 io 0 send 1 : 00=set
-12 cpu 00 take : taken.21
-13 io 0 sweep : done
-14 cpu 00 eoi : ended.21.edge
-log 0 : 0.1=new
-log 1 : 0.1=merged
-log 2 : 0.1=merged
-state imcr none
-state cpu 00 first tpr 00 irr - isr - tmr -
-state io 0 line 000000 due 000000 remote 000000
-end
-";
 
 /// Rows that each command answers with the same report, since one agent alone steps.
 const BY_BOTH: &[Row] = &[
@@ -346,18 +306,21 @@ end
 
 #[test]
 fn reports(rt: HostRuntime) -> Result<(), Fail> {
-    let wrong = first_wrong(&rt, rt.alloc(), BOTH, BY_BOTH)?;
-    same(&rt, "reports of both commands", wrong, None);
-    let wrong = first_wrong(&rt, rt.alloc(), &["trace"], BY_TURNS)?;
-    same(&rt, "reports of the round robin", wrong, None);
-    Ok(())
+    are_answered(&rt, rt.alloc(), BOTH, "reports of both commands", BY_BOTH)?;
+    are_answered(
+        &rt,
+        rt.alloc(),
+        &["trace"],
+        "reports of the round robin",
+        BY_TURNS,
+    )
 }
 
 #[test]
 fn boots_of_one_agent(rt: HostRuntime) -> Result<(), Fail> {
     for row in BY_BOTH {
-        let answer = answer_to(&rt, rt.alloc(), "boot", &row.tables, row.script.as_bytes())?;
-        same(&rt, row.name, answer.is(row.status, row.text), true);
+        let right = boots_so(&rt, rt.alloc(), row)?;
+        same(&rt, row.name, right, true);
     }
     Ok(())
 }

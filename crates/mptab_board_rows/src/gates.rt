@@ -1,10 +1,10 @@
 //! Boots by threads through a gate: each agent has a thread of its own, and what is printed is the history of
 //! the threads. It holds what no clause says.
 
-use crate::harness::{Answer, IMAGE, SCRIPT, same, shelf_of, words_of};
-use crate::pulses::{ONE_PIN, THREE_PULSES_SCRIPT};
+use crate::harness::{Answer, IMAGE, SCRIPT, same, shelf_of, sink_of, words_of};
+use crate::three_pulses::{ONE_PIN, THREE_PULSES_SCRIPT};
 use mpb_spec::Agent;
-use mpt_base::MemSink;
+use mpt_base::MemShelf;
 use mptab_calls::{Gate, run_with};
 use std::alloc::Global;
 use std::sync::Wait;
@@ -14,9 +14,6 @@ use std::thread::Threads;
 
 /// How often a gate looks before it goes on and marks the test as failed.
 const LOOKS: u64 = 50_000_000;
-
-/// The room of a report.
-const ROOM: usize = 0x10000;
 
 /// Whether the count came to its goal, before so many looks.
 fn comes_to(count: &AtomicU64, goal: u64) -> bool {
@@ -144,12 +141,21 @@ fn booted<R: Threads + Wait + Sync, G: Gate + Sync>(
     alloc: Global,
     gate: &G,
 ) -> Result<Answer, Fail> {
-    let mut shelf = shelf_of(alloc, ONE_PIN, THREE_PULSES_SCRIPT.as_bytes())?;
+    let mut shelf = shelf_of(alloc, &ONE_PIN, THREE_PULSES_SCRIPT.as_bytes())?;
+    booted_over(rt, alloc, &mut shelf, gate)
+}
+
+/// The same where the image and the script are on this shelf.
+fn booted_over<R: Threads + Wait + Sync, G: Gate + Sync>(
+    rt: &R,
+    alloc: Global,
+    shelf: &mut MemShelf,
+    gate: &G,
+) -> Result<Answer, Fail> {
     let words = words_of(alloc, &["boot", IMAGE, SCRIPT])?;
-    let mut sink = MemSink::new(alloc, ROOM)?;
-    let status = run_with(rt, alloc, words.as_slice(), &mut shelf, &mut sink, gate);
-    let text = Vec::from_slice(alloc, sink.bytes())?;
-    Ok(Answer { status, text })
+    let mut sink = sink_of(alloc, 0)?;
+    let status = run_with(rt, alloc, words.as_slice(), shelf, &mut sink, gate);
+    Answer::with(alloc, status, &sink)
 }
 
 /// Where a line that ends with this text begins, counted in lines.
@@ -181,18 +187,25 @@ fn gate_two(rt: HostRuntime) -> Result<(), Fail> {
     Ok(())
 }
 
+/// The status of a boot where this device is held, how often it looked in vain, and whether it begins last.
+fn late<R: Threads + Wait + Sync>(
+    rt: &R,
+    alloc: Global,
+    held: u8,
+) -> Result<(u8, u64, bool), Fail> {
+    let gate = LateGate::new(held);
+    let answer = booted(rt, alloc, &gate)?;
+    let text = str::from_utf8(answer.text.as_slice()).unwrap_or("");
+    let last = begins_last(text, usize::from(held));
+    Ok((answer.status, gate.missed.load(Ordering::SeqCst), last))
+}
+
 #[test]
 fn gate_late(rt: HostRuntime) -> Result<(), Fail> {
     for held in [0u8, 1, 2] {
-        let gate = LateGate::new(held);
-        let answer = booted(&rt, rt.alloc(), &gate)?;
-        same(&rt, "status", answer.status, 0);
-        same(&rt, "looks in vain", gate.missed.load(Ordering::SeqCst), 0);
-        let text = str::from_utf8(answer.text.as_slice()).unwrap_or("");
-        assert!(rt;
-            begins_last(text, usize::from(held)),
-            "device {held} begins last"
-        );
+        let got = late(&rt, rt.alloc(), held)?;
+        let name = "a device, the status, how often it looked in vain, and whether it begins last";
+        same(&rt, name, (held, got), (held, (0, 0, true)));
     }
     Ok(())
 }

@@ -1,20 +1,11 @@
 //! Drills: the summaries of three, and words that are none.
 
-use crate::harness::{Answer, answer_of, same};
+use crate::harness::{Answer, Case, USAGE, answer_of, same};
 use mpt_base::MemShelf;
 use std::alloc::Global;
 use std::sync::Wait;
 use std::test::Fail;
 use std::thread::Threads;
-
-const USAGE: &str = "mptab: usage\n";
-
-/// Words, and the status and text that answer them.
-struct Case {
-    words: &'static [&'static str],
-    status: u8,
-    text: &'static str,
-}
 
 /// The least drill, one of the most processors, and the greatest.
 const DRILLS: &[Case] = &[

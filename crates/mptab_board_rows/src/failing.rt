@@ -1,24 +1,14 @@
 //! Words that are no form, files that aren't there, and calls of shelf and sink that fail one by one.
 
 use crate::harness::{
-    Answer, BOTH, IMAGE, NOTHING, REPORT, SCRIPT, answer_of, same, script_of, shelf_of, words_of,
+    Answer, BOTH, Case, IMAGE, NOTHING, ONE, REPORT, SCRIPT, USAGE, answer_of, answer_to, same,
+    script_of, shelf_of,
 };
-use crate::pulses::ONE;
-use mpt_base::{MemShelf, MemSink};
-use mptab_calls::run;
+use mpt_base::MemShelf;
 use std::alloc::Global;
 use std::sync::Wait;
 use std::test::Fail;
 use std::thread::Threads;
-
-const USAGE: &str = "mptab: usage\n";
-
-/// Words, and the status and text that answer them.
-struct Case {
-    words: &'static [&'static str],
-    status: u8,
-    text: &'static str,
-}
 
 /// An image, a script, and an image whose tables are refused are there.
 const WORDS: &[Case] = &[
@@ -149,36 +139,67 @@ fn bad_image(alloc: Global) -> Result<Vec<u8>, Fail> {
     Ok(bad)
 }
 
+/// A shelf with one processor's image, a script without words, and this file.
+fn shelf_beside(alloc: Global, name: &str, bytes: &[u8]) -> Result<MemShelf, Fail> {
+    let mut shelf = shelf_of(alloc, &ONE, b"page = 0x9F\n")?;
+    shelf.add(name, bytes)?;
+    Ok(shelf)
+}
+
 /// The shelf of these rows.
 fn shelf_of_words(alloc: Global) -> Result<MemShelf, Fail> {
     let bad = bad_image(alloc)?;
-    let mut shelf = shelf_of(alloc, ONE, b"page = 0x9F\n")?;
-    shelf.add("bad", bad.as_slice())?;
-    Ok(shelf)
+    shelf_beside(alloc, "bad", bad.as_slice())
+}
+
+/// Whether a case is answered as it says.
+fn is_answered<R: Threads + Wait + Sync>(
+    rt: &R,
+    alloc: Global,
+    case: &Case,
+    shelf: &mut MemShelf,
+) -> Result<bool, Fail> {
+    let answer = answer_of(rt, alloc, case.words, shelf, 0)?;
+    Ok(answer.is(case.status, case.text))
 }
 
 #[test]
 fn words(rt: HostRuntime) -> Result<(), Fail> {
     let mut shelf = shelf_of_words(rt.alloc())?;
-    for (n, case) in WORDS.iter().enumerate() {
-        let answer = answer_of(&rt, rt.alloc(), case.words, &mut shelf, 0)?;
-        assert!(rt; answer.is(case.status, case.text), "row {n}");
+    for case in WORDS {
+        let right = is_answered(&rt, rt.alloc(), case, &mut shelf)?;
+        same(&rt, case.text, right, true);
     }
     Ok(())
 }
 
 #[test]
 fn top_call(rt: HostRuntime) -> Result<(), Fail> {
-    let mut shelf = shelf_of(rt.alloc(), ONE, b"page = 0x9F\n")?;
-    let mut sink = MemSink::new(rt.alloc(), 1024)?;
-    let words = words_of(rt.alloc(), &["boot", IMAGE, SCRIPT])?;
-    let status = run(&rt, rt.alloc(), words.as_slice(), &mut shelf, &mut sink);
-    assert!(rt; status == 0 && sink.bytes() == NOTHING.as_bytes());
+    let answer = answer_to(&rt, rt.alloc(), "boot", &ONE, b"page = 0x9F\n")?;
+    same(&rt, "the report", answer.is(0, NOTHING), true);
     Ok(())
 }
 
-/// The answer of a command to one processor that waits 200 times, where a call of the shelf fails and a put of
-/// the sink; 0 is none.
+/// The answer to these words, where a call of the shelf fails and a put of the sink; 0 is none.
+fn with_failures<R: Threads + Wait + Sync>(
+    rt: &R,
+    alloc: Global,
+    words: &[&str],
+    shelf: &mut MemShelf,
+    call: u64,
+    put: u64,
+) -> Result<Answer, Fail> {
+    shelf.fail(call)?;
+    answer_of(rt, alloc, words, shelf, put)
+}
+
+/// A shelf with one processor that waits 200 times.
+fn long_shelf(alloc: Global) -> Result<MemShelf, Fail> {
+    let script = script_of(alloc, "\"pause 1\",", 200, 0)?;
+    shelf_of(alloc, &ONE, script.as_slice())
+}
+
+/// The answer of a command to it, where a call of the shelf fails and a put of the sink; 0 is none.
 fn long_answer<R: Threads + Wait + Sync>(
     rt: &R,
     alloc: Global,
@@ -186,10 +207,8 @@ fn long_answer<R: Threads + Wait + Sync>(
     call: u64,
     put: u64,
 ) -> Result<Answer, Fail> {
-    let script = script_of(alloc, "\"pause 1\",", 200, 0)?;
-    let mut shelf = shelf_of(alloc, ONE, script.as_slice())?;
-    shelf.fail(call)?;
-    answer_of(rt, alloc, &[command, IMAGE, SCRIPT], &mut shelf, put)
+    let mut shelf = long_shelf(alloc)?;
+    with_failures(rt, alloc, &[command, IMAGE, SCRIPT], &mut shelf, call, put)
 }
 
 /// Its report, which is longer than a piece of 4,096 bytes and no longer than two.
@@ -220,6 +239,18 @@ const CALLS: &[(u64, &str)] = &[
     (8, SCRIPT_UNREAD),
 ];
 
+/// Whether this call's failure is answered by this line.
+fn is_unread<R: Threads + Wait + Sync>(
+    rt: &R,
+    alloc: Global,
+    command: &str,
+    call: u64,
+    line: &str,
+) -> Result<bool, Fail> {
+    let answer = long_answer(rt, alloc, command, call, 0)?;
+    Ok(answer.is(4, line))
+}
+
 /// The first call of the shelf whose failure has another answer.
 fn first_wrong_call<R: Threads + Wait + Sync>(
     rt: &R,
@@ -227,8 +258,7 @@ fn first_wrong_call<R: Threads + Wait + Sync>(
     command: &str,
 ) -> Result<Option<u64>, Fail> {
     for (call, line) in CALLS {
-        let answer = long_answer(rt, alloc, command, *call, 0)?;
-        if !answer.is(4, line) {
+        if !is_unread(rt, alloc, command, *call, line)? {
             return Ok(Some(*call));
         }
     }
@@ -244,19 +274,21 @@ fn calls_of_the_shelf(rt: HostRuntime) -> Result<(), Fail> {
     Ok(())
 }
 
-/// The answer of `replay` to the report of one processor without words, where a call of the shelf fails and a
+/// The words of a replay.
+const REPLAY: &[&str] = &["replay", IMAGE, SCRIPT, REPORT];
+
+/// Whether `replay` answers so to the report of one processor without words, where a call of the shelf fails and a
 /// put of the sink; 0 is none.
-fn replayed<R: Threads + Wait + Sync>(
+fn is_replayed<R: Threads + Wait + Sync>(
     rt: &R,
     alloc: Global,
-    call: u64,
-    put: u64,
-) -> Result<Answer, Fail> {
-    let mut shelf = shelf_of(alloc, ONE, b"page = 0x9F\n")?;
-    shelf.add(REPORT, NOTHING.as_bytes())?;
-    shelf.fail(call)?;
-    let words = ["replay", IMAGE, SCRIPT, REPORT];
-    answer_of(rt, alloc, &words, &mut shelf, put)
+    failing: (u64, u64),
+    status: u8,
+    text: &str,
+) -> Result<bool, Fail> {
+    let mut shelf = shelf_beside(alloc, REPORT, NOTHING.as_bytes())?;
+    let answer = with_failures(rt, alloc, REPLAY, &mut shelf, failing.0, failing.1)?;
+    Ok(answer.is(status, text))
 }
 
 const REPORT_UNREAD: &str = "mptab: cannot read report.txt\n";
@@ -264,36 +296,33 @@ const REPORT_UNREAD: &str = "mptab: cannot read report.txt\n";
 #[test]
 fn calls_of_the_shelf_by_a_replay(rt: HostRuntime) -> Result<(), Fail> {
     for (call, line) in CALLS {
-        let answer = replayed(&rt, rt.alloc(), *call, 0)?;
-        assert!(rt; answer.is(4, line), "call {call}");
+        let right = is_replayed(&rt, rt.alloc(), (*call, 0), 4, line)?;
+        same(&rt, line, (*call, right), (*call, true));
     }
     // The report's size and its bytes.
     for call in [9, 10] {
-        let answer = replayed(&rt, rt.alloc(), call, 0)?;
-        assert!(rt; answer.is(4, REPORT_UNREAD), "call {call}");
+        let right = is_replayed(&rt, rt.alloc(), (call, 0), 4, REPORT_UNREAD)?;
+        same(&rt, REPORT_UNREAD, (call, right), (call, true));
     }
-    let answer = replayed(&rt, rt.alloc(), 11, 0)?;
-    assert!(rt; answer.is(0, "replay legal\n"), "there are ten calls");
+    let right = is_replayed(&rt, rt.alloc(), (11, 0), 0, "replay legal\n")?;
+    same(&rt, "there are ten calls", right, true);
     Ok(())
 }
 
 #[test]
 fn puts_of_the_sink_by_a_replay(rt: HostRuntime) -> Result<(), Fail> {
-    let answer = replayed(&rt, rt.alloc(), 0, 1)?;
-    assert!(rt; answer.is(5, ""), "the put fails");
-    let answer = replayed(&rt, rt.alloc(), 0, 2)?;
-    assert!(rt; answer.is(0, "replay legal\n"), "there is one put");
+    let right = is_replayed(&rt, rt.alloc(), (0, 1), 5, "")?;
+    same(&rt, "the put fails", right, true);
+    let right = is_replayed(&rt, rt.alloc(), (0, 2), 0, "replay legal\n")?;
+    same(&rt, "there is one put", right, true);
     Ok(())
 }
 
 /// A call of the shelf and a put of the sink that fail, the status, and the most bytes of the report that are
 /// written. There are eight calls and two puts.
-const PUTS: &[(u64, u64, u8, usize)] = &[
-    (0, 1, 5, 0),
-    (0, 2, 5, 4096),
-    (9, 3, 0, 8192),
-    (8, 1, 5, 0),
-];
+type Put = (u64, u64, u8, usize);
+
+const PUTS: &[Put] = &[(0, 1, 5, 0), (0, 2, 5, 4096), (9, 3, 0, 8192), (8, 1, 5, 0)];
 
 /// Whether an answer is this status with no more than so many bytes of the report.
 fn is_cut(answer: &Answer, status: u8, whole: &[u8], most: usize) -> bool {
@@ -301,17 +330,28 @@ fn is_cut(answer: &Answer, status: u8, whole: &[u8], most: usize) -> bool {
     answer.status == status && answer.text.as_slice() == written
 }
 
+/// Whether this put's failure is answered so.
+fn is_written<R: Threads + Wait + Sync>(
+    rt: &R,
+    alloc: Global,
+    command: &str,
+    put: &Put,
+    report: &[u8],
+) -> Result<bool, Fail> {
+    let answer = long_answer(rt, alloc, command, put.0, put.1)?;
+    Ok(is_cut(&answer, put.2, report, put.3))
+}
+
 /// The first put whose failure has another answer.
 fn first_wrong_put<R: Threads + Wait + Sync>(
     rt: &R,
     alloc: Global,
     command: &str,
+    report: &[u8],
 ) -> Result<Option<(u64, u64)>, Fail> {
-    let report = long_report(alloc)?;
-    for (call, put, status, most) in PUTS {
-        let answer = long_answer(rt, alloc, command, *call, *put)?;
-        if !is_cut(&answer, *status, report.as_str().as_bytes(), *most) {
-            return Ok(Some((*call, *put)));
+    for put in PUTS {
+        if !is_written(rt, alloc, command, put, report)? {
+            return Ok(Some((put.0, put.1)));
         }
     }
     Ok(None)
@@ -319,11 +359,24 @@ fn first_wrong_put<R: Threads + Wait + Sync>(
 
 #[test]
 fn puts_of_the_sink(rt: HostRuntime) -> Result<(), Fail> {
+    let report = long_report(rt.alloc())?;
     for command in BOTH {
-        let wrong = first_wrong_put(&rt, rt.alloc(), command)?;
+        let wrong = first_wrong_put(&rt, rt.alloc(), command, report.as_str().as_bytes())?;
         same(&rt, command, wrong, None);
     }
     Ok(())
+}
+
+/// Whether `trace` answers by this status, or by want of memory, where this call of the shelf fails and this put.
+fn is_right_or_refused<R: Threads + Wait + Sync>(
+    rt: &R,
+    alloc: Global,
+    call: u64,
+    put: u64,
+    status: u8,
+) -> Result<bool, Fail> {
+    let answer = long_answer(rt, alloc, "trace", call, put)?;
+    Ok(answer.status == status || answer.is(9, "mptab: no memory\n"))
 }
 
 /// For runs outside the gate, in each of which one allocation fails: this test alone accepts status 9. Where its
@@ -331,9 +384,8 @@ fn puts_of_the_sink(rt: HostRuntime) -> Result<(), Fail> {
 #[test]
 fn want_of_memory(rt: HostRuntime) -> Result<(), Fail> {
     for (call, put, status) in [(0, 0, 0), (7, 0, 4), (8, 0, 4), (0, 1, 5), (0, 2, 5)] {
-        let answer = long_answer(&rt, rt.alloc(), "trace", call, put)?;
-        let refused = answer.is(9, "mptab: no memory\n");
-        assert!(rt; refused || answer.status == status, "status {status}");
+        let right = is_right_or_refused(&rt, rt.alloc(), call, put, status)?;
+        same(&rt, "the status", (status, right), (status, true));
     }
     Ok(())
 }

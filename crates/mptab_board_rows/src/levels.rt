@@ -1,16 +1,19 @@
 //! Level pins: causes, remote IRR, masks and falls.
 
-use crate::harness::{Row, first_wrong, same};
+use crate::harness::{Row, are_traced};
+use crate::tables::{Entry, Tables};
 use std::test::Fail;
 
 const ROWS: &[Row] = &[
     Row {
         name: "a level message that nobody accepted needs a cause to be sent again",
-        imcr: false,
-        lines: "bus id 00 name \"PCI   \"
+        tables: Tables::Listed(
+            &[Entry::Boot(0)],
+            "bus id 00 name \"PCI   \"
 ioapic id 01 version 11 flags 01 address FEC00000
 ioint kind 00 flags 0000 bus 00 irq 00 dest 01 pin 10
 ",
+        ),
         script: "page = 0x9F
 
 [[cpu]]
@@ -23,7 +26,8 @@ words = [
 [[device]]
 words = [\"high 0 16\", \"high 0 16\", \"low 0 16\", \"high 0 16\"]
 ",
-        report: "mpboot 1
+        status: 0,
+        text: "mpboot 1
 entries 21
 0 cpu 00 iosel 0 31 : done
 1 cpu 00 iowin 0 00000000 : plain
@@ -55,9 +59,11 @@ end
     },
     Row {
         name: "an EOI sends no message again that nobody accepted",
-        imcr: false,
-        lines: "ioapic id 01 version 11 flags 01 address FEC00000
+        tables: Tables::Listed(
+            &[Entry::Boot(0)],
+            "ioapic id 01 version 11 flags 01 address FEC00000
 ",
+        ),
         script: "page = 0x9F
 
 [[cpu]]
@@ -70,7 +76,8 @@ words = [
 [[device]]
 words = [\"high 0 0\", \"high 0 1\"]
 ",
-        report: "mpboot 1
+        status: 0,
+        text: "mpboot 1
 entries 16
 0 cpu 00 iosel 0 11 : done
 1 dev 0 begin : done
@@ -97,11 +104,13 @@ end
     },
     Row {
         name: "remote IRR holds a level pin",
-        imcr: false,
-        lines: "bus id 00 name \"PCI   \"
+        tables: Tables::Listed(
+            &[Entry::Boot(0)],
+            "bus id 00 name \"PCI   \"
 ioapic id 01 version 11 flags 01 address FEC00000
 ioint kind 00 flags 0000 bus 00 irq 00 dest 01 pin 10
 ",
+        ),
         script: "page = 0x9F
 
 [[cpu]]
@@ -115,7 +124,8 @@ words = [
 [[device]]
 words = [\"high 0 16\", \"low 0 16\", \"high 0 16\"]
 ",
-        report: "mpboot 1
+        status: 0,
+        text: "mpboot 1
 entries 23
 0 cpu 00 iosel 0 31 : done
 1 cpu 00 iowin 0 00000000 : plain
@@ -149,11 +159,13 @@ end
     },
     Row {
         name: "a fall withdraws a message, and a mask holds it",
-        imcr: false,
-        lines: "bus id 00 name \"PCI   \"
+        tables: Tables::Listed(
+            &[Entry::Boot(0)],
+            "bus id 00 name \"PCI   \"
 ioapic id 01 version 11 flags 01 address FEC00000
 ioint kind 00 flags 0000 bus 00 irq 00 dest 01 pin 10
 ",
+        ),
         script: "page = 0x9F
 
 [[cpu]]
@@ -169,7 +181,8 @@ words = [\"high 0 16\"]
 [[device]]
 words = [\"low 0 16\", \"low 0 16\"]
 ",
-        report: "mpboot 1
+        status: 0,
+        text: "mpboot 1
 entries 21
 0 cpu 00 iosel 0 31 : done
 1 cpu 00 iowin 0 00000000 : plain
@@ -205,7 +218,5 @@ end
 
 #[test]
 fn level_pins_are_sent_by_their_causes(rt: HostRuntime) -> Result<(), Fail> {
-    let wrong = first_wrong(rt.alloc(), ROWS)?;
-    same(&rt, "the first row with another report", wrong, None);
-    Ok(())
+    are_traced(&rt, rt.alloc(), ROWS)
 }

@@ -1,18 +1,21 @@
 //! Pulses, registers, and the turns of an I/O APIC.
 
-use crate::harness::{Row, first_wrong, same};
+use crate::harness::{Row, are_traced};
+use crate::tables::{Entry, Tables};
 use std::test::Fail;
 
 const ROWS: &[Row] = &[
     Row {
         name: "pulses at masked, level and due pins",
-        imcr: false,
-        lines: "bus id 00 name \"ISA   \"
+        tables: Tables::Listed(
+            &[Entry::Boot(0)],
+            "bus id 00 name \"ISA   \"
 bus id 01 name \"PCI   \"
 ioapic id 01 version 11 flags 01 address FEC00000
 ioint kind 00 flags 0000 bus 00 irq 01 dest 01 pin 01
 ioint kind 00 flags 0000 bus 01 irq 00 dest 01 pin 10
 ",
+        ),
         script: "page = 0x9F
 
 [[cpu]]
@@ -28,7 +31,8 @@ words = [\"pulse 0 1\", \"pulse 0 16\", \"pulse 0 2\", \"pulse 0 1\"]
 [[device]]
 words = [\"pulse 0 1\"]
 ",
-        report: "mpboot 1
+        status: 0,
+        text: "mpboot 1
 entries 24
 0 cpu 00 iosel 0 13 : done
 1 cpu 00 iowin 0 00000000 : plain
@@ -64,9 +68,11 @@ end
     },
     Row {
         name: "every kind of register is read and written",
-        imcr: false,
-        lines: "ioapic id 11 version 11 flags 01 address FEC00000
+        tables: Tables::Listed(
+            &[Entry::Boot(0)],
+            "ioapic id 11 version 11 flags 01 address FEC00000
 ",
+        ),
         script: "page = 0x9F
 
 [[cpu]]
@@ -85,7 +91,8 @@ words = [
   \"iosel 0 0\", \"ioread 0\",
 ]
 ",
-        report: "mpboot 1
+        status: 0,
+        text: "mpboot 1
 entries 34
 0 cpu 00 ioread 0 : read.01000000
 1 io 0 sweep : done
@@ -129,11 +136,13 @@ end
     },
     Row {
         name: "an I/O APIC collects before it sends, and the line of an edge pin is nothing to it",
-        imcr: false,
-        lines: "bus id 00 name \"ISA   \"
+        tables: Tables::Listed(
+            &[Entry::Boot(0)],
+            "bus id 00 name \"ISA   \"
 ioapic id 01 version 11 flags 01 address FEC00000
 ioint kind 00 flags 0000 bus 00 irq 01 dest 01 pin 01
 ",
+        ),
         script: "page = 0x9F
 
 [[cpu]]
@@ -146,7 +155,8 @@ words = [\"pulse 0 1\", \"pulse 0 1\"]
 [[device]]
 words = [\"high 0 1\", \"low 0 1\"]
 ",
-        report: "mpboot 1
+        status: 0,
+        text: "mpboot 1
 entries 16
 0 cpu 00 iosel 0 13 : done
 1 cpu 00 iowin 0 00000000 : plain
@@ -176,7 +186,5 @@ end
 
 #[test]
 fn pulses_and_registers_are_as_written(rt: HostRuntime) -> Result<(), Fail> {
-    let wrong = first_wrong(rt.alloc(), ROWS)?;
-    same(&rt, "the first row with another report", wrong, None);
-    Ok(())
+    are_traced(&rt, rt.alloc(), ROWS)
 }

@@ -1,18 +1,13 @@
-//! What the rows stand on: comparisons, images and listings of their parts.
+//! What the rows of revisions stand on: images and listings of their parts.
 
-use crate::images::PROCESSOR_LINE;
+use crate::harness::same;
+use crate::revision_images::PROCESSOR_LINE;
 use mpt_base::Shelf;
 use mpt_listing::print;
 use mpt_spec::Tables;
 use mpt_table::read_from;
 use std::alloc::{AllocError, Global};
-use std::fmt::Debug;
 use std::process::Abort;
-
-/// Ends the test where the two differ, and prints both and the name of the row.
-pub(crate) fn same<T: PartialEq + Debug + Drop>(rt: &impl Abort, name: &str, got: T, want: T) {
-    assert_eq!(rt; got, want, "{name}");
-}
 
 /// Writes bytes at a place. What passes the end is left out.
 pub(crate) fn put(image: &mut [u8], at: usize, bytes: &[u8]) {

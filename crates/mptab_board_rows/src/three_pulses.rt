@@ -1,23 +1,14 @@
 //! A board whose three devices pulse one pin, its script and its report, worked out by hand.
 
-/// One processor without more, as a listing.
-pub(crate) const ONE: &str = "mptable 1
-pointer at 000F0000 table 000F0010 revision 04 features 0000000000
-header revision 04 oem \"MPTAB   \" product \"BOARD       \" oemtable 00000000 oemsize 0000 local FEE00000 reserved 00
-processor id 00 version 10 flags 03 signature 00000000 features 00000000 reserved 0000000000000000
-end
-";
+use crate::tables::{Entry, Tables};
 
 /// One processor, and an ISA source at INTIN 1 of one I/O APIC.
-pub(crate) const ONE_PIN: &str = "mptable 1
-pointer at 000F0000 table 000F0010 revision 04 features 0000000000
-header revision 04 oem \"MPTAB   \" product \"BOARD       \" oemtable 00000000 oemsize 0000 local FEE00000 reserved 00
-processor id 00 version 10 flags 03 signature 00000000 features 00000000 reserved 0000000000000000
-ioapic id 01 version 11 flags 01 address FEC00000
-bus id 00 name \"ISA   \"
+pub(crate) const ONE_PIN: Tables = Tables::Listed(
+    &[Entry::Boot(0), Entry::Io(1)],
+    "bus id 00 name \"ISA   \"
 ioint kind 00 flags 0000 bus 00 irq 01 dest 01 pin 01
-end
-";
+",
+);
 
 /// Three devices that pulse that pin once each, and a processor that takes one interrupt and ends it.
 pub(crate) const THREE_PULSES_SCRIPT: &str = "page = 0x9F

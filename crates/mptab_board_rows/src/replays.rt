@@ -1,8 +1,8 @@
 //! Reports of three pulses on one pin, judged: the run itself, what is wrong of others, lines that are no report,
 //! and the report of a boot.
 
-use crate::harness::{Answer, IMAGE, REPORT, SCRIPT, answer_of, same, shelf_of};
-use crate::pulses::{ONE_PIN, THREE_PULSES, THREE_PULSES_SCRIPT};
+use crate::harness::{Answer, IMAGE, REPORT, SCRIPT, answer_of, boots_legally, same, shelf_of};
+use crate::three_pulses::{ONE_PIN, THREE_PULSES, THREE_PULSES_SCRIPT};
 use std::alloc::Global;
 use std::sync::Wait;
 use std::test::Fail;
@@ -95,58 +95,64 @@ fn changed(alloc: Global, text: &str, old: &str, new: &str) -> Result<String, Fa
 
 /// The answer of `replay` to this report.
 fn judged<R: Threads + Wait + Sync>(rt: &R, alloc: Global, report: &[u8]) -> Result<Answer, Fail> {
-    let mut shelf = shelf_of(alloc, ONE_PIN, THREE_PULSES_SCRIPT.as_bytes())?;
+    let mut shelf = shelf_of(alloc, &ONE_PIN, THREE_PULSES_SCRIPT.as_bytes())?;
     shelf.add(REPORT, report)?;
     answer_of(rt, alloc, &["replay", IMAGE, SCRIPT, REPORT], &mut shelf, 0)
+}
+
+/// Whether the verdict on this report is so.
+fn is_judged<R: Threads + Wait + Sync>(
+    rt: &R,
+    alloc: Global,
+    report: &str,
+    status: u8,
+    text: &str,
+) -> Result<bool, Fail> {
+    let answer = judged(rt, alloc, report.as_bytes())?;
+    Ok(answer.is(status, text))
+}
+
+/// Whether the verdict on the changed report of a case is as it says.
+fn is_right<R: Threads + Wait + Sync>(rt: &R, alloc: Global, case: &Case) -> Result<bool, Fail> {
+    let report = changed(alloc, THREE_PULSES, case.old, case.new)?;
+    is_judged(rt, alloc, report.as_str(), case.status, case.text)
 }
 
 #[test]
 fn reports_that_are_judged(rt: HostRuntime) -> Result<(), Fail> {
     for case in CASES {
-        let report = changed(rt.alloc(), THREE_PULSES, case.old, case.new)?;
-        let answer = judged(&rt, rt.alloc(), report.as_str().as_bytes())?;
-        same(&rt, case.text, answer.is(case.status, case.text), true);
+        let right = is_right(&rt, rt.alloc(), case)?;
+        same(&rt, case.text, right, true);
     }
     Ok(())
 }
 
+/// The report without its last entry.
+fn cut_report(alloc: Global) -> Result<String, Fail> {
+    let shorter = changed(alloc, THREE_PULSES, "14 cpu 00 eoi : ended.21.edge\n", "")?;
+    changed(alloc, shorter.as_str(), "entries 15\n", "entries 14\n")
+}
+
 #[test]
 fn report_that_is_cut(rt: HostRuntime) -> Result<(), Fail> {
-    let shorter = changed(
-        rt.alloc(),
-        THREE_PULSES,
-        "14 cpu 00 eoi : ended.21.edge\n",
-        "",
-    )?;
-    let report = changed(rt.alloc(), shorter.as_str(), "entries 15\n", "entries 14\n")?;
-    let answer = judged(&rt, rt.alloc(), report.as_str().as_bytes())?;
-    same(
-        &rt,
-        "without its last entry",
-        answer.is(1, "replay unfinished cpu 00\n"),
-        true,
-    );
+    let report = cut_report(rt.alloc())?;
+    let text = "replay unfinished cpu 00\n";
+    let right = is_judged(&rt, rt.alloc(), report.as_str(), 1, text)?;
+    same(&rt, "without its last entry", right, true);
     Ok(())
 }
 
 #[test]
 fn boot_is_legal(rt: HostRuntime) -> Result<(), Fail> {
-    let mut shelf = shelf_of(rt.alloc(), ONE_PIN, THREE_PULSES_SCRIPT.as_bytes())?;
-    let report = answer_of(&rt, rt.alloc(), &["boot", IMAGE, SCRIPT], &mut shelf, 0)?;
-    same(&rt, "status of the boot", report.status, 0);
-    let answer = judged(&rt, rt.alloc(), report.text.as_slice())?;
-    same(
-        &rt,
-        "the verdict on a boot",
-        answer.is(0, "replay legal\n"),
-        true,
-    );
+    let mut shelf = shelf_of(rt.alloc(), &ONE_PIN, THREE_PULSES_SCRIPT.as_bytes())?;
+    let legal = boots_legally(&rt, rt.alloc(), &mut shelf)?;
+    same(&rt, "the verdict on a boot", legal, true);
     Ok(())
 }
 
 #[test]
 fn report_that_is_missing(rt: HostRuntime) -> Result<(), Fail> {
-    let mut shelf = shelf_of(rt.alloc(), ONE_PIN, THREE_PULSES_SCRIPT.as_bytes())?;
+    let mut shelf = shelf_of(rt.alloc(), &ONE_PIN, THREE_PULSES_SCRIPT.as_bytes())?;
     let answer = answer_of(
         &rt,
         rt.alloc(),

@@ -1,7 +1,8 @@
 //! Revisions that aren't read, and faults of a table of revision 1.
 
-use crate::harness::{image_of, put, same};
-use crate::images::{POINTER_1, POINTER_4, TABLE_1, TABLE_4};
+use crate::harness::same;
+use crate::revision_images::{POINTER_1, POINTER_4, TABLE_1, TABLE_4};
+use crate::revisions::{image_of, put};
 use mpt_base::{Fault, Reason};
 use mpt_table::{Refusal, read};
 use std::alloc::{AllocError, Global};

@@ -1,10 +1,12 @@
-//! The four: what each lists, and what becomes of it.
+//! Tables of either revision under a floating pointer of either, all four worked out by hand: what each lists, and
+//! what becomes of it.
 
-use crate::harness::{image_of, listing, lists, same, tables_in_file};
-use crate::images::{
+use crate::harness::same;
+use crate::revision_images::{
     CLEAR_LINE_1, CLEAR_LINE_4, HEADER_LINE_1, HEADER_LINE_4, POINTER_1, POINTER_4, POINTER_LINE_1,
     POINTER_LINE_4, TABLE_1, TABLE_4,
 };
+use crate::revisions::{image_of, listing, lists, tables_in_file};
 use mpt_audit::audit;
 use mpt_base::MemShelf;
 use mpt_parse::parse;
