@@ -64,6 +64,14 @@ pushed c s t journal longer x f before now b may outcomes next is more =
     subst (λ (l : List Entry). IsBoard c t l now) (sym is)
     (record { state = then.state; legal = then.legal; within = then.within; accounted = then.accounted; config = then.config; small = then.small; reserved = omega (arith, then.reserved, more) })
 
+-- what the board shows has grown by that entry
+pub shown_grows : (old : BoardView) (c : Plan) (s : BoardState) (journal longer : List Entry) (x : Entry) (f : Offer) (capacity : ℕ) → record { plan = c; journal = journal } ≡ old → IsBoard c s journal capacity
+    → next_op (final_state_of c journal) x.agent f ≡ Some x.op → x.outcomes.items ≡ outcomes_of x.agent x.op s
+    → longer ≡ journal ++ x ∷ [] → Grows old x.agent f x (record { plan = c; journal = longer })
+shown_grows old c s journal longer x f capacity same b may outcomes is =
+    let step : IsStep (final_state_of c journal) x = record { offer = f; may = may; outcomes = outcomes ∙ ap (outcomes_of x.agent x.op) b.state } in
+    subst (λ (o : BoardView). Grows o x.agent f x (record { plan = c; journal = longer })) same (record { plan = refl; journal = is; agent = refl; op = may; step = step })
+
 -- a journal's length fits any count
 pub short : (c : Plan) (s : BoardState) (journal : List Entry) (capacity : ℕ) → IsBoard c s journal capacity → length journal < 2 ^ 62
 short c s journal capacity b = omega (arith, b.within, room_bound c b.config, b.small)

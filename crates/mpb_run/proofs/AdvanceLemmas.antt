@@ -11,7 +11,7 @@ use Rattle.mpb_spec.specs.State.{BoardState}
 use Rattle.mpb_spec.specs.May.{MayStep}
 use Rattle.mpb_spec.specs.Plan.{Plan}
 use Rattle.mpb_board.specs.BoardView.{BoardView, state_of, Grows}
-use Rattle.mpb_robin.specs.RoundRobin.{Run, state_in, entry_of, with_op, with_op_of, with_step}
+use Rattle.mpb_robin.specs.RoundRobin.{Run, state_in, entry_of, with_op_of, with_step}
 
 -- what the call answers
 abbrev pub Advanced : BoardView → Agent → Offer → Bool → BoardView → Type 0
