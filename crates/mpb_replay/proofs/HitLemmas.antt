@@ -1,5 +1,5 @@
 -- The first hit of a log, the test of a pin, and the least pin of all.
-use Rattle.std.proofs.Common.{◌≡◌, ◌==◌, ℕ, zero, suc, ◌+◌, ◌<◌, Bool, true, false, not, ◌&&◌, ◌||◌, cond, List, [], ◌∷◌, length, take, get_or, sym, ap, ◌∙◌, subst, arith, Some, None, find, MatchBool, inl, inr, ◌≢◌, ◌^◌, ◌≤◌, map, replicate, refl, Option, count_by}
+use Rattle.std.proofs.Common.{◌≡◌, ◌==◌, ℕ, zero, suc, ◌+◌, ◌<◌, Bool, true, false, not, ◌&&◌, ◌||◌, cond, List, [], ◌∷◌, length, take, get_or, sym, ap, ◌∙◌, subst, arith, Some, None, find, MatchBool, inl, inr, ◌≢◌, ◌^◌, ◌≤◌, refl, count_by}
 use Rattle.std.specs.Int.{bit_at}
 use Rattle.std.proofs.lemmas.Bool.{eq-eqb, ne_eqb}
 use Rattle.std.proofs.lemmas.List.{length-take, take_all}

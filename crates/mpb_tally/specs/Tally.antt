@@ -4,7 +4,6 @@
 --     tally_of journal logs       the numbers of a run
 use Rattle.std.specs.Prelude.{ℕ, Bool, true, false, List, length, count_by, sum_by}
 use Rattle.mpb_spec.specs.declared.entry.Entry.{Entry}
-use Rattle.mpb_spec.specs.declared.entry.Outcome.{Outcome}
 use Rattle.mpb_spec.specs.declared.entry.What.{What}
 use Rattle.mpb_spec.specs.declared.entry.What.TheVariants.{Started, Set, Taken}
 use Rattle.mpb_spec.specs.declared.pulse.Pulse.{Pulse}

@@ -1,4 +1,4 @@
-use Rattle.std.proofs.Common.{map, ◌∙◌}
+use Rattle.std.proofs.Common.{◌∙◌}
 use Rattle.mpb_replay.proofs.HitLemmas.{test_is}
 use Rattle.mpb_replay.proofs.accounts.is_accounted.Goals as goal
 

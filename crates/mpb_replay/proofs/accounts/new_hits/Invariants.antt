@@ -1,4 +1,4 @@
-use Rattle.std.proofs.Common.{◌≡◌, ◌≤◌, ◌*◌, map, take}
+use Rattle.std.proofs.Common.{◌≡◌, ◌≤◌, ◌*◌, take}
 use Rattle.mpb_spec.specs.Pulses.{new_hits}
 use Rattle.mpb_replay.proofs.accounts.new_hits.Given as goal
 

@@ -1,4 +1,4 @@
-use Rattle.std.proofs.Common.{below_more, map, arith}
+use Rattle.std.proofs.Common.{below_more, arith}
 use Rattle.mpb_replay.specs.Compared.{AreAccounted}
 use Rattle.mpb_replay.proofs.accounts.wrong_account.Goals as goal
 

@@ -1,4 +1,4 @@
-use Rattle.std.proofs.Common.{ℕ, ◌<◌, map}
+use Rattle.std.proofs.Common.{ℕ, ◌<◌}
 use Rattle.mpb_replay.specs.Compared.{AreAccounted}
 use Rattle.mpb_replay.proofs.accounts.wrong_account.Given as goal
 

@@ -1,4 +1,4 @@
-use Rattle.std.proofs.Common.{below_more, get_or, map, ap, ◌∙◌, ℕ}
+use Rattle.std.proofs.Common.{below_more, get_or, ap, ◌∙◌, ℕ}
 use Rattle.mpb_replay_laws.specs.Differences.{IsAccountedAt}
 use Rattle.mpb_replay.proofs.HitLemmas.{told_by}
 use Rattle.mpb_replay.proofs.accounts.wrong_pin.Goals as goal

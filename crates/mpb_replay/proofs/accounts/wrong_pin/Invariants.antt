@@ -1,4 +1,3 @@
-use Rattle.std.proofs.Common.{map}
 use Rattle.mpb_replay.specs.Compared.{AreAccounted}
 use Rattle.mpb_replay.proofs.accounts.wrong_pin.Given as goal
 

@@ -1,4 +1,4 @@
-use Rattle.std.proofs.Common.{◌≡◌, ◌<◌, ℕ, map, length, ap, sym, subst, ◌∙◌, arith}
+use Rattle.std.proofs.Common.{◌≡◌, ◌<◌, ℕ, length, ap, sym, subst, ◌∙◌, arith}
 use Rattle.mpb_spec.specs.Journal.{IsComplete}
 use Rattle.mpb_replay_laws.proofs.Verdicts.{accounts}
 use Rattle.mpb_replay.specs.Compared.{AreAccounted, IsFirstPinOf}

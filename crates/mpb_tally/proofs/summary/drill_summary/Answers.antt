@@ -1,9 +1,9 @@
-use Rattle.std.proofs.Common.{◌≡◌, ℕ, subst, ap, ◌∙◌, count_by}
+use Rattle.std.proofs.Common.{◌≡◌, ℕ, subst, ap, ◌∙◌}
 use Rattle.mpb_spec.specs.Plan.{Plan}
 use Rattle.mpb_spec.specs.Pulses.{logs_of}
 use Rattle.mpb_robin.specs.RoundRobin.{IsRoundRobinOf}
 use Rattle.mpb_tally.specs.Tally.{tally_of}
-use Rattle.mpb_tally.specs.Summary.{is_routed, summary_of, drill_routes, IsSummaryOf}
+use Rattle.mpb_tally.specs.Summary.{summary_of, IsSummaryOf}
 use Rattle.mpb_tally.proofs.CountLemmas.{answer_only}
 use Rattle.mpb_tally.proofs.summary.drill_summary.Goals as goal
 
