@@ -19,3 +19,9 @@ returns-in-Err-clause-listed g c = c.if-pointer-ne0.false
 
 pub returns-in-Err-clause-fault : goal.returns-in-Err-clause-fault
 returns-in-Err-clause-fault g c = rw c.from.ensures at c.in-Err.ensures.fault
+
+pub returns-in-Ok-clause-unread : goal.returns-in-Ok-clause-unread
+returns-in-Ok-clause-unread g c = λ e. absurd cc
+
+pub returns-in-Ok-clause-unfailed : goal.returns-in-Ok-clause-unfailed
+returns-in-Ok-clause-unfailed g c = λ _. c.in-Ok.ensures.unfailed (λ e. cc)

@@ -41,3 +41,12 @@ pub returns-in-Err-clause-fault : goal.returns-in-Err-clause-fault
 returns-in-Err-clause-fault g c =
     no_fault c.refusal_of.result
     (λ f. IfTold (g.S.Shelf.files c.args.shelf.now) c.args.name.now (λ image. IsLeastFault (HasTableFaultAt image c.args.at) f.at f.why)) c.refusal_of.ensures.fault
+
+pub returns-in-Ok-window-clause-files_stay : goal.returns-in-Ok-window-clause-files_stay
+returns-in-Ok-window-clause-files_stay g c = c.in-Ok-window.ensures.files_stay ∙ c.in-Ok.ensures.files_stay
+
+pub returns-in-Ok-window-clause-misses_stay : goal.returns-in-Ok-window-clause-misses_stay
+returns-in-Ok-window-clause-misses_stay g c = c.in-Ok-window.ensures.misses_stay ∙ c.in-Ok.ensures.misses_stay
+
+pub returns-in-Err-clause-unread : goal.returns-in-Err-clause-unread
+returns-in-Err-clause-unread g c = λ e. c.in-Err.ensures.unread (ap Err (c.refusal_of.ensures.read cc))
