@@ -18,3 +18,35 @@ returns-in-Ok-Some-clause-tables g c = rw c.in-Ok-Some.ensures.files_stay at c.t
 
 pub returns-in-Ok-Some-clause-refused : goal.returns-in-Ok-Some-clause-refused
 returns-in-Ok-Some-clause-refused g c = rw c.in-Ok-Some.ensures.files_stay at c.tables_from.ensures.refused
+
+pub returns-in-Ok-Some-clause-faults_never_fall : goal.returns-in-Ok-Some-clause-faults_never_fall
+returns-in-Ok-Some-clause-faults_never_fall g c = omega (arith, c.in-Ok-Some.ensures.faults_never_fall, c.tables_from.ensures.faults_never_fall)
+
+pub returns-in-Ok-Some-clause-misses_stay : goal.returns-in-Ok-Some-clause-misses_stay
+returns-in-Ok-Some-clause-misses_stay g c = c.tables_from.ensures.misses_stay ∙ c.in-Ok-Some.ensures.misses_stay
+
+pub returns-in-Ok-Some-clause-well_formed : goal.returns-in-Ok-Some-clause-well_formed
+returns-in-Ok-Some-clause-well_formed g c = c.tables_from.ensures.well_formed
+
+pub returns-in-Ok-Some-clause-low : goal.returns-in-Ok-Some-clause-low
+returns-in-Ok-Some-clause-low g c = c.tables_from.ensures.low
+
+pub returns-in-Ok-Some-clause-inside : goal.returns-in-Ok-Some-clause-inside
+returns-in-Ok-Some-clause-inside g c = c.tables_from.ensures.inside
+
+pub returns-in-Ok-None : goal.returns-in-Ok-None
+returns-in-Ok-None g c =
+    let own = rw c.in-Ok-None.field-0-is at c.in-Ok-None.ensures in
+    record {
+      files_stay = own.files_stay;
+      faults_never_fall = own.faults_never_fall;
+      misses_stay = own.misses_stay;
+      unread = λ e. absurd cc;
+      unfailed = λ _. own.unfailed (λ e. cc);
+      asks = omega (arith, own.asks);
+      tables = tt;
+      refused = own.none;
+      well_formed = tt;
+      low = tt;
+      inside = tt;
+    }
