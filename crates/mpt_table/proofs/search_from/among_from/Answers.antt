@@ -79,3 +79,51 @@ area_from-requires g c =
       told = rw c.loop-area.invariant.files c.requires.told;
       area = (rw (drop_more c.args.areas.now c.loop-area.area-index none c.loop-area-test.true) at c.loop-area.invariant.areas).0;
     }
+
+pub returns-in-Ok-Some-clause-files_stay : goal.returns-in-Ok-Some-clause-files_stay
+returns-in-Ok-Some-clause-files_stay g c = c.in-Ok-Some.ensures.files_stay ∙ c.loop-area.invariant.files
+
+pub returns-in-Ok-Some-clause-misses_stay : goal.returns-in-Ok-Some-clause-misses_stay
+returns-in-Ok-Some-clause-misses_stay g c = c.in-Ok-Some.ensures.misses_stay ∙ c.loop-area.invariant.misses
+
+pub returns-in-Ok-Some-clause-faults_never_fall : goal.returns-in-Ok-Some-clause-faults_never_fall
+returns-in-Ok-Some-clause-faults_never_fall g c = rw c.loop-area.invariant.faults at c.in-Ok-Some.ensures.faults_never_fall
+
+pub returns-in-Err-clause-files_stay : goal.returns-in-Err-clause-files_stay
+returns-in-Err-clause-files_stay g c = c.in-Err.ensures.files_stay ∙ c.loop-area.invariant.files
+
+pub returns-in-Err-clause-misses_stay : goal.returns-in-Err-clause-misses_stay
+returns-in-Err-clause-misses_stay g c = c.in-Err.ensures.misses_stay ∙ c.loop-area.invariant.misses
+
+pub returns-in-Err-clause-faults_never_fall : goal.returns-in-Err-clause-faults_never_fall
+returns-in-Err-clause-faults_never_fall g c = rw c.loop-area.invariant.faults at c.in-Err.ensures.faults_never_fall
+
+pub returns-in-Ok-Some-clause-none : goal.returns-in-Ok-Some-clause-none
+returns-in-Ok-Some-clause-none g c = tt
+
+pub returns-in-Err-clause-some : goal.returns-in-Err-clause-some
+returns-in-Err-clause-some g c = tt
+
+pub returns-in-Err-clause-none : goal.returns-in-Err-clause-none
+returns-in-Err-clause-none g c = tt
+
+pub returns-in-Err-clause-place : goal.returns-in-Err-clause-place
+returns-in-Err-clause-place g c = tt
+
+pub returns-clause-files_stay : goal.returns-clause-files_stay
+returns-clause-files_stay g c = c.loop-area.invariant.files
+
+pub returns-clause-misses_stay : goal.returns-clause-misses_stay
+returns-clause-misses_stay g c = c.loop-area.invariant.misses
+
+pub returns-clause-faults_never_fall : goal.returns-clause-faults_never_fall
+returns-clause-faults_never_fall g c = omega (arith, c.loop-area.invariant.faults)
+
+pub returns-clause-some : goal.returns-clause-some
+returns-clause-some g c = tt
+
+pub returns-clause-place : goal.returns-clause-place
+returns-clause-place g c = tt
+
+pub returns-clause-unread : goal.returns-clause-unread
+returns-clause-unread g c = λ e. absurd cc

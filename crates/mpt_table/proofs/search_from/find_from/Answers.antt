@@ -1,4 +1,4 @@
-use Rattle.std.proofs.Common.{◌∙◌}
+use Rattle.std.proofs.Common.{◌∙◌, arith}
 use Rattle.std.specs.List.{flat_map}
 use Rattle.mpt_spec.specs.Search.{places_in}
 use Rattle.mpt_table.proofs.FromLemmas.{found_first, none_first}
@@ -17,3 +17,18 @@ returns-in-Ok-clause-unfailed g c = λ other. c.among_from.ensures.unfailed othe
 
 pub returns-in-Ok-clause-unread : goal.returns-in-Ok-clause-unread
 returns-in-Ok-clause-unread g c = λ unread. rw c.in-Ok.ensures.unfailed at (c.among_from.ensures.unread unread)
+
+pub returns-in-Ok-clause-files_stay : goal.returns-in-Ok-clause-files_stay
+returns-in-Ok-clause-files_stay g c = c.among_from.ensures.files_stay ∙ c.in-Ok.ensures.files_stay
+
+pub returns-in-Ok-clause-misses_stay : goal.returns-in-Ok-clause-misses_stay
+returns-in-Ok-clause-misses_stay g c = c.among_from.ensures.misses_stay ∙ c.in-Ok.ensures.misses_stay
+
+pub returns-in-Ok-clause-faults_never_fall : goal.returns-in-Ok-clause-faults_never_fall
+returns-in-Ok-clause-faults_never_fall g c = omega (arith, c.among_from.ensures.faults_never_fall, c.in-Ok.ensures.faults_never_fall)
+
+pub returns-in-Ok-clause-place : goal.returns-in-Ok-clause-place
+returns-in-Ok-clause-place g c = c.among_from.ensures.place
+
+pub returns-in-Ok-clause-asks : goal.returns-in-Ok-clause-asks
+returns-in-Ok-clause-asks g c = (let bytes = rw c.as_slice.ensures.value at c.among_from.ensures.asks in omega (arith, bytes, c.in-Ok.ensures.asks, c.in-Ok.ensures.bytes))

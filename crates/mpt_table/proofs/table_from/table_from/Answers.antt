@@ -41,3 +41,42 @@ pub returns-in-Err-clause-fault : goal.returns-in-Err-clause-fault
 returns-in-Err-clause-fault g c =
     no_fault c.refusal_of.result
     (λ f. IfTold (g.S.Shelf.files c.args.shelf.now) c.args.name.now (λ image. IsLeastFault (HasTableFaultAt image c.args.at) f.at f.why)) c.refusal_of.ensures.fault
+
+pub returns-in-Ok-window-clause-files_stay : goal.returns-in-Ok-window-clause-files_stay
+returns-in-Ok-window-clause-files_stay g c = c.in-Ok-window.ensures.files_stay ∙ c.in-Ok.ensures.files_stay
+
+pub returns-in-Ok-window-clause-misses_stay : goal.returns-in-Ok-window-clause-misses_stay
+returns-in-Ok-window-clause-misses_stay g c = c.in-Ok-window.ensures.misses_stay ∙ c.in-Ok.ensures.misses_stay
+
+pub returns-in-Err-clause-unread : goal.returns-in-Err-clause-unread
+returns-in-Err-clause-unread g c = λ e. c.in-Err.ensures.unread (ap Err (c.refusal_of.ensures.read cc))
+
+pub returns-in-Ok-window-clause-faults_never_fall : goal.returns-in-Ok-window-clause-faults_never_fall
+returns-in-Ok-window-clause-faults_never_fall g c = omega (arith, c.in-Ok-window.ensures.faults_never_fall, c.in-Ok.ensures.faults_never_fall)
+
+pub returns-in-Ok-window-clause-well_formed : goal.returns-in-Ok-window-clause-well_formed
+returns-in-Ok-window-clause-well_formed g c = c.table_in.ensures.well_formed
+
+pub returns-in-Ok-window-clause-refusal : goal.returns-in-Ok-window-clause-refusal
+returns-in-Ok-window-clause-refusal g c = c.table_in.ensures.refusal
+
+pub returns-in-Err-clause-files_stay : goal.returns-in-Err-clause-files_stay
+returns-in-Err-clause-files_stay g c = c.in-Err.ensures.files_stay
+
+pub returns-in-Err-clause-faults_never_fall : goal.returns-in-Err-clause-faults_never_fall
+returns-in-Err-clause-faults_never_fall g c = c.in-Err.ensures.faults_never_fall
+
+pub returns-in-Err-clause-misses_stay : goal.returns-in-Err-clause-misses_stay
+returns-in-Err-clause-misses_stay g c = c.in-Err.ensures.misses_stay
+
+pub returns-in-Err-clause-asks : goal.returns-in-Err-clause-asks
+returns-in-Err-clause-asks g c = omega (arith, c.in-Err.ensures.asks)
+
+pub returns-in-Err-clause-refusal : goal.returns-in-Err-clause-refusal
+returns-in-Err-clause-refusal g c = c.refusal_of.ensures.refusal
+
+pub returns-in-Err-clause-table : goal.returns-in-Err-clause-table
+returns-in-Err-clause-table g c = tt
+
+pub returns-in-Err-clause-well_formed : goal.returns-in-Err-clause-well_formed
+returns-in-Err-clause-well_formed g c = tt
