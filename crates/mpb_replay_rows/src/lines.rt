@@ -1,7 +1,7 @@
 //! One line at a time: right ones and faulty ones in the place of a report's own.
 
-use crate::harness::{Answer, Row, same_answers};
-use crate::whole::THREE_DEVICES;
+use crate::reading::{Answer, Row, same_answers};
+use crate::whole::three_devices_text;
 
 const WHOLE: Answer = Answer::Report(15, 3, 1, 1);
 
@@ -337,15 +337,15 @@ const STATES: &[Row] = &[
 
 #[test]
 fn lines_of_entries_are_judged(rt: HostRuntime) {
-    same_answers(&rt, rt.alloc(), THREE_DEVICES, ENTRIES);
+    same_answers(&rt, rt.alloc(), three_devices_text(), ENTRIES);
 }
 
 #[test]
 fn ops_are_read(rt: HostRuntime) {
-    same_answers(&rt, rt.alloc(), THREE_DEVICES, OPS);
+    same_answers(&rt, rt.alloc(), three_devices_text(), OPS);
 }
 
 #[test]
 fn lines_of_logs_and_states_are_judged(rt: HostRuntime) {
-    same_answers(&rt, rt.alloc(), THREE_DEVICES, STATES);
+    same_answers(&rt, rt.alloc(), three_devices_text(), STATES);
 }

@@ -1,4 +1,4 @@
-//! What every theme stands on: the answer to a text, and a report of which one line is another.
+//! What the rows of reports that are read stand on: the answer to a text, and a report of which one line is another.
 
 use mpb_report_parse::{LineWhy, Report, ReportFault, parse_report};
 use std::alloc::{AllocError, Global};

@@ -1,24 +1,19 @@
 //! A usual board with one PCI interrupt: its table, and where other tables differ from it.
 
-use crate::harness::{bus, int, made, platform, same};
+use crate::harness::same;
+use crate::pir::{made, platform};
+use crate::platforms::{board_ints, bus};
 use mpf_pir::{Difference, Odd, PirReason, PirRefusal, compare, read_pir, write_pir};
 use mpt_base::put_bytes;
 use mpt_route::Platform;
-use std::alloc::{AllocError, Global};
+use std::alloc::Global;
 use std::test::Fail;
 
 // INTA# of device 2 on bus 0, among the interrupts of an ISA bus
-fn board(alloc: Global) -> Result<Platform, AllocError> {
+fn board(alloc: Global) -> Result<Platform, Fail> {
     let buses = [bus(0, *b"PCI   "), bus(1, *b"ISA   ")];
-    let mut ints = Vec::new(alloc);
-    ints.push(int(0, 0, 0x08, 0, 0x10))?;
-    ints.push(int(3, 1, 0, 0, 0))?;
-    ints.push(int(0, 1, 0, 0, 2))?;
-    ints.push(int(0, 1, 1, 0, 1))?;
-    for irq in 3..16u8 {
-        ints.push(int(0, 1, irq, 0, irq))?;
-    }
-    platform(alloc, &buses, ints.as_slice())
+    let ints = board_ints(alloc)?;
+    Ok(platform(alloc, &buses, ints.as_slice())?)
 }
 
 /// The 48 bytes of the board's table.

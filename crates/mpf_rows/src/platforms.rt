@@ -1,4 +1,4 @@
-//! Platforms and tables that the rows share.
+//! Platforms and the MADT that the rows share.
 
 use mpt_base::{put_u32, seal8};
 use mpt_route::{Answer, Platform, routes};
@@ -85,8 +85,8 @@ pub(crate) fn platform(
     })
 }
 
-// the interrupts of the usual board: INTA# of PCI device 2, the pair of 8259A, and the ISA interrupts
-fn board_ints(alloc: Global) -> Result<Vec<IntEntry>, AllocError> {
+/// The interrupts of the usual board: INTA# of PCI device 2, the pair of 8259A, and the ISA interrupts.
+pub(crate) fn board_ints(alloc: Global) -> Result<Vec<IntEntry>, AllocError> {
     let mut ints = Vec::new(alloc);
     ints.push(int(0, 0, 0, 0x08, 0, 0x10))?;
     ints.push(int(3, 0, 1, 0, 0, 0))?;

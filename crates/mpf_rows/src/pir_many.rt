@@ -1,6 +1,8 @@
 //! Platforms that no table can say: too many devices, and too many wires.
 
-use crate::harness::{bus, int, made, platform, same};
+use crate::harness::same;
+use crate::pir::{int, made, platform};
+use crate::platforms::bus;
 use mpf_pir::MakeFault;
 use mpt_spec::{Bus, IntEntry};
 use std::alloc::{AllocError, Global};

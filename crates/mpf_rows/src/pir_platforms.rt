@@ -1,6 +1,8 @@
 //! What decides a pin, its wire and its link.
 
-use crate::harness::{bus, int, made, platform, same};
+use crate::harness::same;
+use crate::pir::{int, made, platform};
+use crate::platforms::bus;
 use mpf_pir::{Difference, Odd, Pir, Slot, compare};
 use mpt_spec::Sequence;
 use std::alloc::{AllocError, Global};

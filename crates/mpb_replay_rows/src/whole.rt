@@ -1,12 +1,12 @@
 //! Whole reports, and such as are cut or go on.
 
-use crate::harness::{Answer, answer_to, report_of, same};
+use crate::reading::{Answer, answer_to, report_of, same};
 use mpb_report_parse::{IoLine, Report};
 use mpb_spec::{Agent, Imcr, Life, Op, Outcome, What};
 use std::process::Abort;
 
 /// Two processors start, and there are no I/O APICs.
-pub(crate) const TWO_PROCESSORS: &[u8] = b"mpboot 1
+const TWO_PROCESSORS: &[u8] = b"mpboot 1
 entries 7
 0 cpu 00 init 01 : 01=waiting
 1 cpu 00 pause 10000 : done
@@ -22,7 +22,7 @@ end
 ";
 
 /// Three devices make a pulse on one pin.
-pub(crate) const THREE_DEVICES: &[u8] = b"mpboot 1
+const THREE_DEVICES: &[u8] = b"mpboot 1
 entries 15
 0 cpu 00 iosel 0 13 : done
 1 cpu 00 iowin 0 00000000 : plain
@@ -48,22 +48,32 @@ state io 0 line 000000 due 000000 remote 000000
 end
 ";
 
+/// Two processors start, and there are no I/O APICs.
+pub(crate) fn two_processors_text() -> &'static [u8] {
+    TWO_PROCESSORS
+}
+
+/// Three devices make a pulse on one pin.
+pub(crate) fn three_devices_text() -> &'static [u8] {
+    THREE_DEVICES
+}
+
 #[test]
 fn worked_reports_are_read(rt: HostRuntime) {
     let alloc = rt.alloc();
     same(
         &rt,
         "two processors",
-        answer_to(alloc, TWO_PROCESSORS),
+        answer_to(alloc, two_processors_text()),
         Answer::Report(7, 0, 2, 0),
     );
     same(
         &rt,
         "three devices",
-        answer_to(alloc, THREE_DEVICES),
+        answer_to(alloc, three_devices_text()),
         Answer::Report(15, 3, 1, 1),
     );
-    let Ok(report) = report_of(alloc, THREE_DEVICES) else {
+    let Ok(report) = report_of(alloc, three_devices_text()) else {
         panic!(&rt; "no report");
     };
     has_values(&rt, &report);
