@@ -1,11 +1,23 @@
 //! The boards of the rows.
 
-ghost use Rattle.std.specs.Prelude.{◌<◌, ◌^◌, IfOk, IfSome};
+ghost use Rattle.std.specs.Prelude.{◌<◌, ◌≤◌, ◌^◌, IfOk, IfSome, length};
 ghost use Rattle.mpb_spec.specs.Plan.{plan_size};
 
 use mpb_board::{Config, CpuConfig, DevWord, Op};
 use mpb_config::config_of;
 use std::alloc::{AllocError, Global};
+
+/// A processor.
+fn processor(alloc: Global, id: u8, version: u8, program: &[Op]) -> Result<CpuConfig, AllocError>
+    requires { length program.now ≤ 100 }
+    ensures { IfOk result (λ p. length p.program ≤ 100) }
+{
+    Ok(CpuConfig {
+        id,
+        version,
+        program: program.to_vec(alloc)?,
+    })
+}
 
 /// Two processors of version 10h, ids 0 (boot) and 1, and nothing else. The boot program starts
 /// processor 1 at page 9Fh.
@@ -20,19 +32,10 @@ pub fn two_processors(alloc: Global) -> Result<Option<Config>, AllocError>
         Op::Startup(1, 0x9F),
         Op::Pause(200),
         Op::Check(1),
-    ]
-    .to_vec(alloc)?;
+    ];
     let mut cpus = Vec::new(alloc);
-    cpus.push(CpuConfig {
-        id: 0,
-        version: 0x10,
-        program,
-    })?;
-    cpus.push(CpuConfig {
-        id: 1,
-        version: 0x10,
-        program: Vec::new(alloc),
-    })?;
+    cpus.push(processor(alloc, 0, 0x10, program.as_slice())?)?;
+    cpus.push(processor(alloc, 1, 0x10, &[])?)?;
     Ok(config_of(0x9F, 0, 7, cpus, Vec::new(alloc), false, Vec::new(alloc)))
 }
 
@@ -121,19 +124,10 @@ pub fn old_processor(alloc: Global) -> Result<Option<Config>, AllocError>
         Op::Startup(2, 0x9F),
         Op::Pause(200),
         Op::Check(2),
-    ]
-    .to_vec(alloc)?;
+    ];
     let mut cpus = Vec::new(alloc);
-    cpus.push(CpuConfig {
-        id: 0,
-        version: 0x10,
-        program,
-    })?;
-    cpus.push(CpuConfig {
-        id: 1,
-        version: 1,
-        program: Vec::new(alloc),
-    })?;
+    cpus.push(processor(alloc, 0, 0x10, program.as_slice())?)?;
+    cpus.push(processor(alloc, 1, 1, &[])?)?;
     Ok(config_of(0x9F, 0, 11, cpus, Vec::new(alloc), true, Vec::new(alloc)))
 }
 
@@ -159,24 +153,11 @@ pub fn starts(alloc: Global) -> Result<Option<Config>, AllocError>
         Op::Init(2),
         Op::Check(2),
         Op::Check(3),
-    ]
-    .to_vec(alloc)?;
+    ];
     let mut cpus = Vec::new(alloc);
-    cpus.push(CpuConfig {
-        id: 0,
-        version: 0x10,
-        program,
-    })?;
-    cpus.push(CpuConfig {
-        id: 1,
-        version: 0x10,
-        program: Vec::new(alloc),
-    })?;
-    cpus.push(CpuConfig {
-        id: 2,
-        version: 0x0F,
-        program: Vec::new(alloc),
-    })?;
+    cpus.push(processor(alloc, 0, 0x10, program.as_slice())?)?;
+    cpus.push(processor(alloc, 1, 0x10, &[])?)?;
+    cpus.push(processor(alloc, 2, 0x0F, &[])?)?;
     Ok(config_of(0x9F, 0, 16, cpus, Vec::new(alloc), false, Vec::new(alloc)))
 }
 
@@ -203,19 +184,10 @@ pub fn one_asleep(alloc: Global) -> Result<Option<Config>, AllocError>
         Op::IoSel(0, 0x16),
         Op::IoWin(0, 0x0700),
         Op::Check(1),
-    ]
-    .to_vec(alloc)?;
+    ];
     let mut cpus = Vec::new(alloc);
-    cpus.push(CpuConfig {
-        id: 0,
-        version: 0x10,
-        program,
-    })?;
-    cpus.push(CpuConfig {
-        id: 1,
-        version: 0x10,
-        program: Vec::new(alloc),
-    })?;
+    cpus.push(processor(alloc, 0, 0x10, program.as_slice())?)?;
+    cpus.push(processor(alloc, 1, 0x10, &[])?)?;
     let words = [
         DevWord::Pulse(0, 0),
         DevWord::Pulse(0, 1),
@@ -232,13 +204,9 @@ pub fn one_asleep(alloc: Global) -> Result<Option<Config>, AllocError>
 pub fn early_pulses(alloc: Global) -> Result<Option<Config>, AllocError>
     ensures { IfOk result (λ made. IfSome made (λ c. plan_size c < 2 ^ 32)) }
 {
-    let program = [Op::IoSel(0, 0x12), Op::IoWin(0, 0x21)].to_vec(alloc)?;
+    let program = [Op::IoSel(0, 0x12), Op::IoWin(0, 0x21)];
     let mut cpus = Vec::new(alloc);
-    cpus.push(CpuConfig {
-        id: 0,
-        version: 0x10,
-        program,
-    })?;
+    cpus.push(processor(alloc, 0, 0x10, program.as_slice())?)?;
     let words = [
         DevWord::Pulse(0, 1),
         DevWord::Pulse(0, 1),
@@ -247,4 +215,44 @@ pub fn early_pulses(alloc: Global) -> Result<Option<Config>, AllocError>
     let mut devices = Vec::new(alloc);
     devices.push(words.to_vec(alloc)?)?;
     Ok(config_of(0x9F, 0, 2, cpus, [1].to_vec(alloc)?, false, devices))
+}
+
+/// Processors 2 (boot) and 5, an interrupt mode register, and two I/O APICs. The boot program unmasks pin
+/// 16 of the second one with vector 30h as a level pin; then the processor sends itself vectors 41h and 52h, sets
+/// its priority and takes one. One device asserts the pin's line.
+pub fn second_io_apic(alloc: Global) -> Result<Option<Config>, AllocError>
+    ensures { IfOk result (λ made. IfSome made (λ c. plan_size c < 2 ^ 32)) }
+{
+    let program = [
+        Op::IoSel(1, 0x31),
+        Op::IoWin(1, 0x0200_0000),
+        Op::IoSel(1, 0x30),
+        Op::IoWin(1, 0xA030),
+        Op::Ipi(2, 0x41),
+        Op::Ipi(2, 0x52),
+        Op::Tpr(0x2C),
+        Op::Take,
+    ]
+    .to_vec(alloc)?;
+    let mut cpus = Vec::new(alloc);
+    cpus.push(CpuConfig {
+        id: 2,
+        version: 0x10,
+        program,
+    })?;
+    cpus.push(CpuConfig {
+        id: 5,
+        version: 0x10,
+        program: Vec::new(alloc),
+    })?;
+    let mut devices = Vec::new(alloc);
+    devices.push([DevWord::High(1, 16)].to_vec(alloc)?)?;
+    Ok(Some(Config {
+        boot: 2,
+        boot_len: 4,
+        cpus,
+        ios: [6, 7].to_vec(alloc)?,
+        imcr: true,
+        devices,
+    }))
 }

@@ -1,5 +1,6 @@
-//! The public calls of the board on worked boards whose journals come from outside. It holds tests alone,
-//! so that no crate is proved twice for their sake.
+//! The public calls of the board on worked boards whose journals come from outside, and reports of boards that are
+//! stepped one by one, whose text was written by hand from the format. It holds tests alone, so that no crate is
+//! proved twice for their sake.
 #![tactic(auto)]
 
 #[cfg(test)]
@@ -15,4 +16,10 @@ mod journals;
 #[cfg(test)]
 mod refusals;
 #[cfg(test)]
+mod report_lines;
+#[cfg(test)]
+mod reports;
+#[cfg(test)]
 mod rows;
+#[cfg(test)]
+mod stepped;

@@ -1,6 +1,6 @@
-//! Each op and each outcome once, and a line with eight outcomes.
+//! Each op and each outcome once in a line of a report, and a line with eight outcomes.
 
-use crate::steps::same;
+use crate::harness::same;
 use arrayvec::ArrayVec;
 use mpb_board::{Agent, Entry, Op, Outcome, What};
 use mpb_report::push_entry_line;

@@ -1,7 +1,8 @@
 //! Whole reports.
 
-use crate::boards::{one_level, three_pulses, two_processors};
-use crate::steps::{account_of, has_report, is_quiet, opened, silent_account, steps};
+use crate::boards::{second_io_apic, three_pulses, two_processors};
+use crate::harness::{is_quiet, opened};
+use crate::stepped::{account_of, has_report, silent_account, steps};
 use mpb_board::{Agent, Offer};
 use mpb_spec::Hit;
 
@@ -11,7 +12,7 @@ fn two_processors_start(rt: HostRuntime) {
     let mut board = opened(&rt, alloc, two_processors(alloc));
     let turns = [(Agent::Cpu(0), Offer::Next); 7];
     steps(&rt, &mut board, &turns);
-    is_quiet(&rt, &board);
+    is_quiet(&rt, &board, true);
     let want = b"mpboot 1
 entries 7
 0 cpu 00 init 01 : 01=waiting
@@ -50,7 +51,7 @@ fn three_devices_pulse_one_pin(rt: HostRuntime) {
         boot,
     ];
     steps(&rt, &mut board, &rest);
-    is_quiet(&rt, &board);
+    is_quiet(&rt, &board, true);
     let want = b"mpboot 1
 entries 15
 0 cpu 00 iosel 0 13 : done
@@ -83,7 +84,7 @@ end
 #[test]
 fn registers_that_hold_something(rt: HostRuntime) {
     let alloc = rt.alloc();
-    let mut board = opened(&rt, alloc, one_level(alloc));
+    let mut board = opened(&rt, alloc, second_io_apic(alloc));
     let boot = (Agent::Cpu(2), Offer::Next);
     let device = (Agent::Dev(0), Offer::Next);
     steps(&rt, &mut board, &[boot; 4]);

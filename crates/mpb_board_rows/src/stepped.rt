@@ -1,43 +1,11 @@
 //! A board that is stepped, and the report of it.
 
-ghost use Rattle.std.specs.Prelude.{◌<◌, ◌^◌, IfOk, IfSome};
-ghost use Rattle.mpb_spec.specs.Plan.{plan_size};
-
-use mpb_board::{Agent, Board, Config, Offer};
+use crate::harness::same;
+use mpb_board::{Agent, Board, Offer};
 use mpb_report::report_text;
 use mpb_spec::{Account, Hit, Pulse};
 use std::alloc::{AllocError, Global};
-use std::fmt::Debug;
 use std::process::Abort;
-
-/// Asserts that a call gave what was wanted.
-pub(crate) fn same<T: PartialEq + Debug + Drop>(rt: &impl Abort, name: &str, got: T, want: T) {
-    assert_eq!(rt; got, want, "{name}");
-}
-
-/// The board of a config that was made, in its opening state.
-pub(crate) fn opened(
-    rt: &impl Abort,
-    alloc: Global,
-    made: Result<Option<Config>, AllocError>,
-) -> Board
-    requires { IfOk made (λ some. IfSome some (λ c. plan_size c < 2 ^ 32)) }
-{
-    match made {
-        Ok(Some(config)) => opened_as(rt, alloc, config),
-        Ok(None) => panic!(rt; "no config"),
-        Err(_) => panic!(rt; "out of memory"),
-    }
-}
-
-fn opened_as(rt: &impl Abort, alloc: Global, config: Config) -> Board
-    requires { plan_size config < 2 ^ 32 }
-{
-    match Board::new(alloc, config) {
-        Ok(board) => board,
-        Err(_) => panic!(rt; "out of memory"),
-    }
-}
 
 /// Steps the board by each of these agents and offers, each of which has to be able to step.
 pub(crate) fn steps(rt: &impl Abort, board: &mut Board, turns: &[(Agent, Offer)]) {
@@ -52,11 +20,6 @@ fn step(rt: &impl Abort, board: &mut Board, agent: Agent, offer: Offer) {
         panic!(rt; "no step for entry {number}");
     }
     board.step(agent, offer);
-}
-
-/// Asserts that no agent may step.
-pub(crate) fn is_quiet(rt: &impl Abort, board: &Board) {
-    same(rt, "whether the board is quiet", board.quiet(), true);
 }
 
 /// An account of these logs, each of one pulse at a pin of the first I/O APIC.
