@@ -11,6 +11,7 @@ use Rattle.mpb_spec.specs.Plan.{CpuPlan}
 use Rattle.mpb_spec.specs.declared.entry.Entry.{Entry}
 use Rattle.mpb_spec.specs.Agents.{is_agent, entries_of, IsPrefix}
 use Rattle.mpb_bus.specs.Seats.{AgentSeat, SharedBus, AreSeatsOf}
+use Rattle.mpb_latch.specs.Seats.{CollectorSeat}
 
 -- what was written through a slice of the whole
 pub written_back : {A : Type 0} (new old : List A) (n : ℕ) → length new ≡ length old → n ≡ length old → take n (new ++ drop (length new) old) ≡ new
@@ -65,3 +66,21 @@ few_are_small cpus words n short m six =
 pub if_some : {A : Type 0} (r : Option A) (P Q : A → Type 0) → ((x : A) → P x → Q x) → IfSome r P → IfSome r Q
 if_some (Some x) P Q h p = h x p
 if_some None P Q h p = p
+
+-- the places of collectors that were made for them
+pub made_places : (make : ℕ → CollectorSeat) → ((n : ℕ) → (make n).io ≡ n) → (xs : List ℕ) → map (λ c. c.io) (map make xs) ≡ xs
+made_places make h [] = refl
+made_places make h (x ∷ xs) =
+    let head : (make x).io ≡ x = h x in
+    let tail = made_places make h xs in
+    λ k. head k ∷ tail k
+
+-- collectors that kept their places one by one
+pub kept_places : (new old : List CollectorSeat) → length new ≡ length old → ((i : ℕ) (d : CollectorSeat) → i < length old → (get_or new i d).io ≡ (get_or old i d).io) → map (λ c. c.io) new ≡ map (λ c. c.io) old
+kept_places [] [] n h = refl
+kept_places [] (y ∷ ys) n h = absurd (omega arith)
+kept_places (x ∷ xs) [] n h = absurd (omega arith)
+kept_places (x ∷ xs) (y ∷ ys) n h =
+    let head : x.io ≡ y.io = h 0 y (omega arith) in
+    let tail = kept_places xs ys (omega arith) (λ i d l. h (suc i) d (omega arith)) in
+    λ k. head k ∷ tail k

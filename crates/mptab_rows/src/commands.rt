@@ -1,92 +1,78 @@
 //! The commands over a usual board: its image built from its listing, its routes, its findings, its
 //! canonical form.
 
-use crate::harness::{Answer, POINTER, Piece, image_with, put, same, words_of};
-use crate::usual::{END, LOCAL_INTERRUPTS, ROUTES, TO_INTERRUPTS};
-use mpt_base::{MemShelf, MemSink};
-use mptab_calls::run_still;
+use crate::harness::{
+    Answer, POINTER, Piece, answer_of, answer_over, answers, built, built_of, image_of, image_with,
+    is_shown_after, of_image, put, same, shelf_of, text_of,
+};
+use crate::usual::{
+    END, FIRST, LOCAL_INTR, LOCAL_NMI, POINTER as POINTER_LINE, TO_INTERRUPTS, routes,
+    to_interrupts, usual,
+};
+use mpt_base::MemShelf;
 use std::alloc::Global;
+use std::process::Abort;
 use std::test::Fail;
 
-/// The room of a sink: an image of 1 MiB and more.
-const ROOM: usize = 0x180000;
+/// The board's listing.
+fn usual_listing(alloc: Global) -> Result<Vec<u8>, Fail> {
+    text_of(alloc, usual())
+}
 
-/// The answer to these words, where the put of this number fails; 0 is none.
-fn answer_to(
+/// The board's image.
+fn usual_image(alloc: Global) -> Result<Vec<u8>, Fail> {
+    image_of(alloc, usual())
+}
+
+/// The image of the board with lines behind its I/O interrupts.
+fn image_with_lines(alloc: Global, more: &str) -> Result<Vec<u8>, Fail> {
+    let parts = [
+        FIRST,
+        POINTER_LINE,
+        TO_INTERRUPTS,
+        more,
+        LOCAL_INTR,
+        LOCAL_NMI,
+        END,
+    ];
+    image_of(alloc, &parts)
+}
+
+/// Whether `show` answers to an image by the usual board's listing.
+fn is_usual(alloc: Global, image: &[u8]) -> Result<bool, Fail> {
+    let listing = usual_listing(alloc)?;
+    answers(alloc, &["show", "image"], image, 0, listing.as_slice())
+}
+
+/// Asserts that these words are answered so over the usual board.
+fn answers_usual(
+    rt: &impl Abort,
     alloc: Global,
     words: &[&str],
-    shelf: &mut MemShelf,
-    failing: u64,
-) -> Result<Answer, Fail> {
-    let owned = words_of(alloc, words)?;
-    let mut sink = MemSink::new(alloc, ROOM)?;
-    sink.fail(failing)?;
-    let status = run_still(alloc, owned.as_slice(), shelf, &mut sink);
-    let text = Vec::from_slice(alloc, sink.bytes())?;
-    Ok(Answer { status, text })
-}
-
-/// The text of these parts.
-fn text_of(alloc: Global, parts: &[&str]) -> Result<Vec<u8>, Fail> {
-    let mut text = Vec::new(alloc);
-    for part in parts {
-        text.extend_from_slice(part.as_bytes())?;
-    }
-    Ok(text)
-}
-
-/// The board's listing, with lines behind its I/O interrupts.
-fn usual_listing(alloc: Global, more: &str) -> Result<Vec<u8>, Fail> {
-    text_of(alloc, &[TO_INTERRUPTS, more, LOCAL_INTERRUPTS, END])
-}
-
-/// A shelf with this one file.
-fn shelf_of(alloc: Global, name: &str, bytes: &[u8]) -> Result<MemShelf, Fail> {
-    let mut shelf = MemShelf::new(alloc);
-    shelf.add(name, bytes)?;
-    Ok(shelf)
-}
-
-/// What `build` answers to a listing.
-pub(crate) fn built(alloc: Global, listing: &[u8]) -> Result<Answer, Fail> {
-    let mut shelf = shelf_of(alloc, "list", listing)?;
-    answer_to(alloc, &["build", "list"], &mut shelf, 0)
-}
-
-/// What these words answer, where this image is there.
-pub(crate) fn of_image(alloc: Global, words: &[&str], image: &[u8]) -> Result<Answer, Fail> {
-    let mut shelf = shelf_of(alloc, "image", image)?;
-    answer_to(alloc, words, &mut shelf, 0)
-}
-
-/// The image of the board, with lines behind its I/O interrupts.
-fn usual_image(alloc: Global, more: &str) -> Result<Vec<u8>, Fail> {
-    let listing = usual_listing(alloc, more)?;
-    let answer = built(alloc, listing.as_slice())?;
-    if answer.status != 0 {
-        return Err("the board isn't built".into());
-    }
-    Ok(answer.text)
+    status: u8,
+    text: &str,
+) -> Result<(), Fail> {
+    let image = usual_image(alloc)?;
+    let right = answers(alloc, words, image.as_slice(), status, text.as_bytes())?;
+    same(rt, text, right, true);
+    Ok(())
 }
 
 #[test]
 fn listing_is_built_and_shown(rt: HostRuntime) -> Result<(), Fail> {
-    let listing = usual_listing(rt.alloc(), "")?;
-    let image = usual_image(rt.alloc(), "")?;
+    let image = usual_image(rt.alloc())?;
     same(&rt, "the size of the image", image.len(), 0x100000);
-    let shown = of_image(rt.alloc(), &["show", "image"], image.as_slice())?;
-    assert!(rt; shown.is(0, listing.as_slice()));
+    let right = is_usual(rt.alloc(), image.as_slice())?;
+    same(&rt, "the listing", right, true);
     Ok(())
 }
 
 #[test]
 fn canonical_form_is_its_own(rt: HostRuntime) -> Result<(), Fail> {
-    let image = usual_image(rt.alloc(), "")?;
-    let once = of_image(rt.alloc(), &["canon", "image"], image.as_slice())?;
-    assert!(rt;
-        once.is(0, image.as_slice()),
-        "the usual board is canonical"
-    );
+    let image = usual_image(rt.alloc())?;
+    let image = image.as_slice();
+    let right = answers(rt.alloc(), &["canon", "image"], image, 0, image)?;
+    same(&rt, "the usual board is canonical", right, true);
     Ok(())
 }
 
@@ -114,26 +100,40 @@ end
 #[test]
 fn canonical_form_of_a_mixed_board(rt: HostRuntime) -> Result<(), Fail> {
     let image = built(rt.alloc(), MIXED.as_bytes())?;
-    let canonical = of_image(rt.alloc(), &["canon", "image"], image.text.as_slice())?;
-    let shown = of_image(rt.alloc(), &["show", "image"], canonical.text.as_slice())?;
-    assert!(rt; shown.is(0, CANONICAL.as_bytes()));
+    let canon = &["canon", "image"];
+    let right = is_shown_after(rt.alloc(), canon, image.text.as_slice(), CANONICAL)?;
+    same(&rt, "the canonical form", right, true);
     Ok(())
 }
 
 #[test]
 fn routes_of_the_usual_board(rt: HostRuntime) -> Result<(), Fail> {
-    let image = usual_image(rt.alloc(), "")?;
-    let routed = of_image(rt.alloc(), &["route", "image", "0000"], image.as_slice())?;
-    assert!(rt; routed.is(0, ROUTES.as_bytes()));
-    Ok(())
+    answers_usual(&rt, rt.alloc(), &["route", "image", "0000"], 0, routes())
+}
+
+/// The routes of the usual board, and this one behind them.
+fn routes_with(alloc: Global, last: &str) -> Result<Vec<u8>, Fail> {
+    let mut text = Vec::from_slice(alloc, routes().as_bytes())?;
+    text.extend_from_slice(last.as_bytes())?;
+    Ok(text)
+}
+
+/// Whether the routes of an image are those.
+fn has_routes(alloc: Global, image: &[u8], last: &str) -> Result<bool, Fail> {
+    let expected = routes_with(alloc, last)?;
+    answers(
+        alloc,
+        &["route", "image", "0000"],
+        image,
+        0,
+        expected.as_slice(),
+    )
 }
 
 /// Whether the usual board with a further line has its routes, and this one behind them.
 fn is_routed(alloc: Global, more: &str, last: &str) -> Result<bool, Fail> {
-    let image = usual_image(alloc, more)?;
-    let routed = of_image(alloc, &["route", "image", "0000"], image.as_slice())?;
-    let expected = text_of(alloc, &[ROUTES, last])?;
-    Ok(routed.is(0, expected.as_slice()))
+    let image = image_with_lines(alloc, more)?;
+    has_routes(alloc, image.as_slice(), last)
 }
 
 /// A further interrupt of the PCI bus at the pin of the first, and what its line says.
@@ -152,7 +152,7 @@ const TAKEN: &[(&str, &str)] = &[
 fn routes_at_a_taken_pin(rt: HostRuntime) -> Result<(), Fail> {
     for (more, last) in TAKEN {
         let routed = is_routed(rt.alloc(), more, last)?;
-        assert!(rt; routed, "{last}");
+        same(&rt, last, routed, true);
     }
     Ok(())
 }
@@ -196,15 +196,28 @@ fn lines_of(text: &[u8]) -> usize {
     lines
 }
 
+/// The status of the routes of an image by an ELCR, whether they begin so, and how many lines they have.
+fn routed_by(
+    alloc: Global,
+    image: &[u8],
+    elcr: &str,
+    first: &str,
+) -> Result<(u8, bool, usize), Fail> {
+    let routed = of_image(alloc, &["route", "image", elcr], image)?;
+    let text = routed.text.as_slice();
+    Ok((
+        routed.status,
+        text.starts_with(first.as_bytes()),
+        lines_of(text),
+    ))
+}
+
 #[test]
 fn routes_of_default_configuration_2(rt: HostRuntime) -> Result<(), Fail> {
     let image = image_with(rt.alloc(), 0x100000, &[DEFAULT_2])?;
     for (elcr, first) in BY_ELCR {
-        let routed = of_image(rt.alloc(), &["route", "image", elcr], image.as_slice())?;
-        let text = routed.text.as_slice();
-        same(&rt, elcr, routed.status, 0);
-        same(&rt, elcr, text.starts_with(first.as_bytes()), true);
-        same(&rt, elcr, lines_of(text), 14);
+        let got = routed_by(rt.alloc(), image.as_slice(), elcr, first)?;
+        same(&rt, elcr, got, (0, true, 14));
     }
     Ok(())
 }
@@ -227,22 +240,25 @@ const NO_FORMS: &[&[&str]] = &[
 fn words_of_the_commands(rt: HostRuntime) -> Result<(), Fail> {
     let image = image_with(rt.alloc(), 0x100000, &[DEFAULT_2])?;
     for words in NO_FORMS {
-        let answer = of_image(rt.alloc(), words, image.as_slice())?;
-        assert!(rt; answer.is(2, b"mptab: usage\n"));
+        let right = answers(rt.alloc(), words, image.as_slice(), 2, b"mptab: usage\n")?;
+        same(&rt, "words that are no form", right, true);
     }
     Ok(())
 }
 
-/// What `audit` answers to the usual board.
-fn audited_usual(alloc: Global) -> Result<Answer, Fail> {
-    let image = usual_image(alloc, "")?;
-    of_image(alloc, &["audit", "image"], image.as_slice())
-}
-
-/// What `audit` answers to an image of 1 MiB with these pieces.
-fn audited(alloc: Global, pieces: &[Piece]) -> Result<Answer, Fail> {
+/// Asserts what `audit` answers to an image of 1 MiB with these pieces.
+fn audits(
+    rt: &impl Abort,
+    alloc: Global,
+    pieces: &[Piece],
+    status: u8,
+    text: &str,
+) -> Result<(), Fail> {
     let image = image_with(alloc, 0x100000, pieces)?;
-    of_image(alloc, &["audit", "image"], image.as_slice())
+    let audit = &["audit", "image"];
+    let right = answers(alloc, audit, image.as_slice(), status, text.as_bytes())?;
+    same(rt, text, right, true);
+    Ok(())
 }
 
 /// The board with one processor.
@@ -250,19 +266,11 @@ const BOARD: &[Piece] = &[POINTER, Piece::Table(0xF0010)];
 
 #[test]
 fn findings(rt: HostRuntime) -> Result<(), Fail> {
-    let usual = audited_usual(rt.alloc())?;
-    assert!(rt; usual.is(1, b"rule 6 entry 4 other 0\nfindings 1\n"));
-    let one = audited(rt.alloc(), BOARD)?;
-    assert!(rt; one.is(1, b"rule 8 entry - other -\nfindings 1\n"));
-    let default = audited(rt.alloc(), &[DEFAULT_2])?;
-    assert!(rt; default.is(0, b"findings 0\n"));
-    Ok(())
-}
-
-/// What `build` answers to a listing of these parts.
-fn built_of(alloc: Global, parts: &[&str]) -> Result<Answer, Fail> {
-    let listing = text_of(alloc, parts)?;
-    built(alloc, listing.as_slice())
+    let usual = "rule 6 entry 4 other 0\nfindings 1\n";
+    answers_usual(&rt, rt.alloc(), &["audit", "image"], 1, usual)?;
+    let one = "rule 8 entry - other -\nfindings 1\n";
+    audits(&rt, rt.alloc(), BOARD, 1, one)?;
+    audits(&rt, rt.alloc(), &[DEFAULT_2], 0, "findings 0\n")
 }
 
 /// A listing whose revision has one digit.
@@ -271,21 +279,37 @@ const BAD: &[&str] = &[
     "pointer at 000F0000 table 000F0010 revision 4 features 0000000000\n",
 ];
 
-/// The usual board's listing without its last line, with two of them, and with a pointer inside its block.
+/// Whether the listing of these parts is refused so.
+fn is_refused(alloc: Global, parts: &[&str], text: &str) -> Result<bool, Fail> {
+    let answer = built_of(alloc, parts)?;
+    Ok(answer.is(8, text.as_bytes()))
+}
+
+/// The usual board's listing without its last line, and with two of them; and one with a bad line.
 #[test]
 fn listings_that_are_refused(rt: HostRuntime) -> Result<(), Fail> {
-    let early = built_of(rt.alloc(), &[TO_INTERRUPTS, LOCAL_INTERRUPTS])?;
-    assert!(rt; early.is(8, b"mptab: listing line 28 Early\n"));
-    let late = built_of(rt.alloc(), &[TO_INTERRUPTS, LOCAL_INTERRUPTS, END, END])?;
-    assert!(rt; late.is(8, b"mptab: listing line 29 Late\n"));
-    let bad = built_of(rt.alloc(), BAD)?;
-    assert!(rt; bad.is(8, b"mptab: listing line 2 Form\n"));
+    let early = [FIRST, POINTER_LINE, to_interrupts(), LOCAL_INTR, LOCAL_NMI];
+    let right = is_refused(rt.alloc(), &early, "mptab: listing line 28 Early\n")?;
+    same(&rt, "no last line", right, true);
+    let late = [
+        FIRST,
+        POINTER_LINE,
+        to_interrupts(),
+        LOCAL_INTR,
+        LOCAL_NMI,
+        END,
+        END,
+    ];
+    let right = is_refused(rt.alloc(), &late, "mptab: listing line 29 Late\n")?;
+    same(&rt, "two last lines", right, true);
+    let right = is_refused(rt.alloc(), BAD, "mptab: listing line 2 Form\n")?;
+    same(&rt, "a revision of one digit", right, true);
     Ok(())
 }
 
 /// What `build` answers to the usual board whose pointer is moved to F0020h.
 fn built_with_moved_pointer(alloc: Global) -> Result<Answer, Fail> {
-    let mut listing = usual_listing(alloc, "")?;
+    let mut listing = usual_listing(alloc)?;
     put(&mut listing, 0, b"mptable 1\npointer at 000F0020");
     built(alloc, listing.as_slice())
 }
@@ -305,33 +329,44 @@ fn canonical_of_high(alloc: Global) -> Result<Answer, Fail> {
 /// Whether the usual board, whose pointer is moved to F0020h, meets its block.
 #[test]
 fn tables_that_do_not_fit(rt: HostRuntime) -> Result<(), Fail> {
-    let moved = built_with_moved_pointer(rt.alloc())?;
-    assert!(rt; moved.is(8, b"mptab: does not fit 260\n"));
-    let high = canonical_of_high(rt.alloc())?;
-    assert!(rt; high.is(8, b"mptab: does not fit 64\n"));
+    let moved = built_with_moved_pointer(rt.alloc())?.is(8, b"mptab: does not fit 260\n");
+    same(&rt, "the pointer inside its block", moved, true);
+    let high = canonical_of_high(rt.alloc())?.is(8, b"mptab: does not fit 64\n");
+    same(&rt, "a table above 1 MiB", high, true);
     Ok(())
 }
 
-/// What `build` answers to a listing of this many spaces.
-fn built_of_spaces(alloc: Global, size: usize) -> Result<Answer, Fail> {
+/// A shelf with a listing of this many spaces.
+fn shelf_of_spaces(alloc: Global, size: usize) -> Result<MemShelf, Fail> {
     let listing = vec![in alloc; b' '; size]?;
-    built(alloc, listing.as_slice())
+    shelf_of(alloc, "list", listing.as_slice())
+}
+
+/// Whether `build` is answered so, where there is a listing of 4,194,305 spaces.
+fn is_built_of_spaces(
+    alloc: Global,
+    words: &[&str],
+    status: u8,
+    text: &[u8],
+) -> Result<bool, Fail> {
+    let mut shelf = shelf_of_spaces(alloc, 4_194_305)?;
+    let answer = answer_of(alloc, words, &mut shelf, 0)?;
+    Ok(answer.is(status, text))
 }
 
 #[test]
 fn listing_past_its_limit(rt: HostRuntime) -> Result<(), Fail> {
-    let large = built_of_spaces(rt.alloc(), 4_194_305)?;
-    assert!(rt; large.is(10, b"mptab: too large list 4194305\n"));
-    let mut shelf = MemShelf::new(rt.alloc());
-    let missing = answer_to(rt.alloc(), &["build", "x"], &mut shelf, 0)?;
-    assert!(rt; missing.is(3, b"mptab: no file x\n"));
+    let large = b"mptab: too large list 4194305\n";
+    let right = is_built_of_spaces(rt.alloc(), &["build", "list"], 10, large)?;
+    same(&rt, "a listing past its limit", right, true);
+    let right = is_built_of_spaces(rt.alloc(), &["build", "x"], 3, b"mptab: no file x\n")?;
+    same(&rt, "no listing", right, true);
     Ok(())
 }
 
 /// What `build` answers to a listing, where this put fails.
 fn built_with_failing_put(alloc: Global, listing: &[u8], failing: u64) -> Result<Answer, Fail> {
-    let mut shelf = shelf_of(alloc, "list", listing)?;
-    answer_to(alloc, &["build", "list"], &mut shelf, failing)
+    answer_over(alloc, &["build", "list"], "list", listing, failing)
 }
 
 /// How many bytes of the usual board's image were written, where this put fails, and the status.
@@ -351,7 +386,7 @@ const PIECES: &[(u64, usize, u8)] = &[
 
 #[test]
 fn pieces_of_an_image(rt: HostRuntime) -> Result<(), Fail> {
-    let listing = usual_listing(rt.alloc(), "")?;
+    let listing = usual_listing(rt.alloc())?;
     for (failing, bytes, status) in PIECES {
         let written = bytes_written(rt.alloc(), listing.as_slice(), *failing)?;
         same(&rt, "the bytes and the status", written, (*bytes, *status));
@@ -362,13 +397,19 @@ fn pieces_of_an_image(rt: HostRuntime) -> Result<(), Fail> {
 /// The word that names F000h as the segment of the EBDA.
 const EBDA_WORD: &[Piece] = &[Piece::Bytes(0x40E, 2, 0x00F0)];
 
+/// Whether this is written of the usual board's image, where the second put fails.
+fn is_written(alloc: Global, piece: &[u8]) -> Result<bool, Fail> {
+    let listing = usual_listing(alloc)?;
+    let answer = built_with_failing_put(alloc, listing.as_slice(), 2)?;
+    Ok(answer.is(5, piece))
+}
+
 /// The second put of the image fails: the first piece is there, zero but for the EBDA word.
 #[test]
 fn second_piece_of_an_image_fails(rt: HostRuntime) -> Result<(), Fail> {
-    let listing = usual_listing(rt.alloc(), "")?;
-    let answer = built_with_failing_put(rt.alloc(), listing.as_slice(), 2)?;
     let piece = image_with(rt.alloc(), 4096, EBDA_WORD)?;
-    assert!(rt; answer.is(5, piece.as_slice()));
+    let right = is_written(rt.alloc(), piece.as_slice())?;
+    same(&rt, "the first piece", right, true);
     Ok(())
 }
 
@@ -376,17 +417,11 @@ fn second_piece_of_an_image_fails(rt: HostRuntime) -> Result<(), Fail> {
 /// 65,536 bytes.
 const SIZES: &[(usize, u8)] = &[(0, 8), (1, 8), (65_536, 8), (65_537, 4)];
 
-/// A shelf with a listing of this many spaces.
-fn shelf_of_spaces(alloc: Global, size: usize) -> Result<MemShelf, Fail> {
-    let listing = vec![in alloc; b' '; size]?;
-    shelf_of(alloc, "list", listing.as_slice())
-}
-
 /// The status of `build` for such a listing, where the third call of the shelf fails.
 fn status_of_spaces(alloc: Global, size: usize) -> Result<u8, Fail> {
     let mut shelf = shelf_of_spaces(alloc, size)?;
     shelf.fail(3)?;
-    let answer = answer_to(alloc, &["build", "list"], &mut shelf, 0)?;
+    let answer = answer_of(alloc, &["build", "list"], &mut shelf, 0)?;
     Ok(answer.status)
 }
 
@@ -442,7 +477,7 @@ const READING: &[Reading] = &[
 
 /// A shelf with the usual board's listing.
 fn shelf_of_listing(alloc: Global) -> Result<MemShelf, Fail> {
-    let listing = usual_listing(alloc, "")?;
+    let listing = usual_listing(alloc)?;
     shelf_of(alloc, "list", listing.as_slice())
 }
 
@@ -456,7 +491,7 @@ fn with_failing_call(
     let mut shelf = shelf_of_listing(alloc)?;
     shelf.add("image", image)?;
     shelf.fail(failing)?;
-    answer_to(alloc, words, &mut shelf, 0)
+    answer_of(alloc, words, &mut shelf, 0)
 }
 
 /// Calls of the shelf fail one by one, until a run meets no failure; the number of calls.
@@ -475,7 +510,7 @@ fn failing_calls(alloc: Global, words: &[&str], image: &[u8], line: &str) -> Res
 
 #[test]
 fn calls_of_the_shelf_by_command(rt: HostRuntime) -> Result<(), Fail> {
-    let image = usual_image(rt.alloc(), "")?;
+    let image = usual_image(rt.alloc())?;
     for reading in READING {
         let calls = failing_calls(rt.alloc(), reading.words, image.as_slice(), reading.line)?;
         same(&rt, reading.line, calls, reading.calls);
@@ -541,8 +576,7 @@ fn with_failing_put(
     image: &[u8],
     failing: u64,
 ) -> Result<Answer, Fail> {
-    let mut shelf = shelf_of(alloc, "image", image)?;
-    answer_to(alloc, words, &mut shelf, failing)
+    answer_over(alloc, words, "image", image, failing)
 }
 
 /// Whether an answer is the whole one, or status 5 with its first bytes.
@@ -553,18 +587,19 @@ fn is_first_part(answer: &Answer, whole: &Answer, written: Option<usize>) -> boo
     }
 }
 
+/// Whether a failing put is answered as its row says.
+fn is_put(alloc: Global, putting: &Putting, image: &[u8]) -> Result<bool, Fail> {
+    let whole = with_failing_put(alloc, putting.words, image, 0)?;
+    let answer = with_failing_put(alloc, putting.words, image, putting.failing)?;
+    Ok(is_first_part(&answer, &whole, putting.written))
+}
+
 #[test]
 fn puts_of_the_sink_by_command(rt: HostRuntime) -> Result<(), Fail> {
-    let image = usual_image(rt.alloc(), "")?;
+    let image = usual_image(rt.alloc())?;
     for putting in PUTTING {
-        let whole = with_failing_put(rt.alloc(), putting.words, image.as_slice(), 0)?;
-        let answer = with_failing_put(
-            rt.alloc(),
-            putting.words,
-            image.as_slice(),
-            putting.failing,
-        )?;
-        assert!(rt; is_first_part(&answer, &whole, putting.written));
+        let right = is_put(rt.alloc(), putting, image.as_slice())?;
+        same(&rt, "a failing put", right, true);
     }
     Ok(())
 }

@@ -2,13 +2,15 @@
 
 use crate::board::{HEAD, board_with};
 use crate::harness::{
-    Answer, NAME, POINTER, Piece, ROOM, SMALL_POINTER, WORD, answer_of, image_with, same,
-    shelf_with, words_of,
+    Answer, NAME, POINTER, Piece, ROOM, SMALL_POINTER, WORD, answer_of, answer_over, image_with,
+    same, shelf_with, words_of,
 };
 use mpt_base::{MemShelf, MemSink};
 use mptab_calls::run;
 use std::alloc::Global;
+use std::sync::Wait;
 use std::test::Fail;
+use std::thread::Threads;
 
 /// The listing of the board with one processor, whose pointer is at 500h.
 const LISTING: &str = "mptable 1
@@ -81,6 +83,10 @@ const WORDS: &[Case] = &[
     },
 ];
 
+fn cases() -> &'static [Case] {
+    WORDS
+}
+
 /// The pieces of the board's image, which ends with the table.
 const SMALL_BOARD: &[Piece] = &[WORD, SMALL_POINTER, Piece::Table(0x510)];
 
@@ -99,23 +105,40 @@ fn small_answer(alloc: Global, words: &[&str]) -> Result<Answer, Fail> {
     answer_of(alloc, words, &mut shelf, 0)
 }
 
+/// Whether a case is answered as it says.
+fn is_answered(alloc: Global, case: &Case) -> Result<bool, Fail> {
+    let answer = small_answer(alloc, case.words)?;
+    Ok(answer.is(case.status, case.text.as_bytes()))
+}
+
 #[test]
 fn words(rt: HostRuntime) -> Result<(), Fail> {
-    for (n, case) in WORDS.iter().enumerate() {
-        let answer = small_answer(rt.alloc(), case.words)?;
-        assert!(rt; answer.is(case.status, case.text.as_bytes()), "row {n}");
+    for case in cases() {
+        let right = is_answered(rt.alloc(), case)?;
+        same(&rt, case.text, right, true);
     }
     Ok(())
+}
+
+/// What `run` itself answers to `show`, with a runtime that may start threads.
+fn top_answer<R: Threads + Wait + Sync>(
+    rt: &R,
+    alloc: Global,
+    shelf: &mut MemShelf,
+) -> Result<Answer, Fail> {
+    let words = words_of(alloc, &["show", NAME])?;
+    let mut sink = MemSink::new(alloc, ROOM)?;
+    let status = run(rt, alloc, words.as_slice(), shelf, &mut sink);
+    let text = Vec::from_slice(alloc, sink.bytes())?;
+    Ok(Answer { status, text })
 }
 
 #[test]
 fn top_call(rt: HostRuntime) -> Result<(), Fail> {
     let mut shelf = small_board(rt.alloc(), 0)?;
-    let mut sink = MemSink::new(rt.alloc(), ROOM)?;
-    let words = words_of(rt.alloc(), &["show", NAME])?;
-    let status = run(&rt, rt.alloc(), words.as_slice(), &mut shelf, &mut sink);
-    same(&rt, "the status", status, 0);
-    same(&rt, "the text", sink.bytes(), LISTING.as_bytes());
+    let answer = top_answer(&rt, rt.alloc(), &mut shelf)?;
+    same(&rt, "the status", answer.status, 0);
+    same(&rt, "the text", answer.text.as_slice(), LISTING.as_bytes());
     Ok(())
 }
 
@@ -173,8 +196,7 @@ fn is_cut(answer: &Answer, text: &[u8]) -> bool {
 /// Puts of the sink fail one by one, until a run meets no failure and gives the text; the number of puts.
 fn failing_puts(alloc: Global, words: &[&str], image: &[u8], text: &[u8]) -> Result<u64, Fail> {
     for put in 1..MANY {
-        let mut shelf = shelf_with(alloc, image, 0)?;
-        let answer = answer_of(alloc, words, &mut shelf, put)?;
+        let answer = answer_over(alloc, words, NAME, image, put)?;
         if answer.text.as_slice() == text {
             return Ok(put - 1);
         }
@@ -188,7 +210,7 @@ fn failing_puts(alloc: Global, words: &[&str], image: &[u8], text: &[u8]) -> Res
 #[test]
 fn puts_of_the_sink(rt: HostRuntime) -> Result<(), Fail> {
     let image = image_with(rt.alloc(), 0x550, SMALL_BOARD)?;
-    for case in WORDS {
+    for case in cases() {
         let puts = failing_puts(
             rt.alloc(),
             case.words,

@@ -1,6 +1,6 @@
 //! The sixteen faults, one image for each and more, and which of two faults is named.
 
-use crate::harness::{Piece, Row, SMALL_POINTER as POINTER, WORD, first_wrong, same};
+use crate::harness::{Piece, Row, SMALL_POINTER as POINTER, WORD, are_shown};
 use std::test::Fail;
 
 /// The length of most images: the table ends there.
@@ -719,21 +719,15 @@ end
 
 #[test]
 fn each_reason(rt: HostRuntime) -> Result<(), Fail> {
-    let wrong = first_wrong(rt.alloc(), REASONS)?;
-    same(&rt, "the first wrong row", wrong, None);
-    Ok(())
+    are_shown(&rt, rt.alloc(), REASONS)
 }
 
 #[test]
 fn the_first_of_two_faults(rt: HostRuntime) -> Result<(), Fail> {
-    let wrong = first_wrong(rt.alloc(), PAIRS)?;
-    same(&rt, "the first wrong row", wrong, None);
-    Ok(())
+    are_shown(&rt, rt.alloc(), PAIRS)
 }
 
 #[test]
 fn default_numbers(rt: HostRuntime) -> Result<(), Fail> {
-    let wrong = first_wrong(rt.alloc(), DEFAULTS)?;
-    same(&rt, "the first wrong row", wrong, None);
-    Ok(())
+    are_shown(&rt, rt.alloc(), DEFAULTS)
 }

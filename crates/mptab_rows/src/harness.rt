@@ -10,8 +10,8 @@ use std::test::Fail;
 /// The name under which an image lies on the shelf.
 pub(crate) const NAME: &str = "board.img";
 
-/// The room of a sink: more than any text of these rows.
-pub(crate) const ROOM: usize = 65536;
+/// The room of a sink: an image of 1 MiB and more.
+pub(crate) const ROOM: usize = 0x180000;
 
 /// What lies at a place in an image. What passes the image's end is left out.
 pub(crate) enum Piece {
@@ -62,6 +62,11 @@ impl Answer {
     pub(crate) fn is(&self, status: u8, text: &[u8]) -> bool {
         self.status == status && self.text.as_slice() == text
     }
+
+    /// Whether it is this status with a text that ends like this.
+    pub(crate) fn ends(&self, status: u8, text: &[u8]) -> bool {
+        self.status == status && self.text.as_slice().ends_with(text)
+    }
 }
 
 /// Asserts that two values are the same, at one place for every row.
@@ -103,12 +108,27 @@ pub(crate) fn put(image: &mut [u8], at: usize, bytes: &[u8]) {
     }
 }
 
+/// A shelf with this one file.
+pub(crate) fn shelf_of(alloc: Global, name: &str, bytes: &[u8]) -> Result<MemShelf, Fail> {
+    let mut shelf = MemShelf::new(alloc);
+    shelf.add(name, bytes)?;
+    Ok(shelf)
+}
+
 /// A shelf with this one image, of which the call of this number fails; 0 is none.
 pub(crate) fn shelf_with(alloc: Global, image: &[u8], failing: u64) -> Result<MemShelf, Fail> {
-    let mut shelf = MemShelf::new(alloc);
-    shelf.add(NAME, image)?;
+    let mut shelf = shelf_of(alloc, NAME, image)?;
     shelf.fail(failing)?;
     Ok(shelf)
+}
+
+/// The text of these parts.
+pub(crate) fn text_of(alloc: Global, parts: &[&str]) -> Result<Vec<u8>, Fail> {
+    let mut text = Vec::new(alloc);
+    for part in parts {
+        text.extend_from_slice(part.as_bytes())?;
+    }
+    Ok(text)
 }
 
 /// These words, as the top call takes them.
@@ -135,10 +155,75 @@ pub(crate) fn answer_of(
     Ok(Answer { status, text })
 }
 
+/// The same where one file is there, of this name and with these bytes.
+pub(crate) fn answer_over(
+    alloc: Global,
+    words: &[&str],
+    name: &str,
+    bytes: &[u8],
+    failing: u64,
+) -> Result<Answer, Fail> {
+    let mut shelf = shelf_of(alloc, name, bytes)?;
+    answer_of(alloc, words, &mut shelf, failing)
+}
+
+/// What `build` answers to a listing.
+pub(crate) fn built(alloc: Global, listing: &[u8]) -> Result<Answer, Fail> {
+    answer_over(alloc, &["build", "list"], "list", listing, 0)
+}
+
+/// The image of the listing of these parts.
+pub(crate) fn image_of(alloc: Global, listing: &[&str]) -> Result<Vec<u8>, Fail> {
+    let image = built_of(alloc, listing)?;
+    if image.status != 0 {
+        return Err("the tables of a row aren't built".into());
+    }
+    Ok(image.text)
+}
+
+/// What `build` answers to the listing of these parts.
+pub(crate) fn built_of(alloc: Global, listing: &[&str]) -> Result<Answer, Fail> {
+    let text = text_of(alloc, listing)?;
+    built(alloc, text.as_slice())
+}
+
+/// What these words answer, where this image is there.
+pub(crate) fn of_image(alloc: Global, words: &[&str], image: &[u8]) -> Result<Answer, Fail> {
+    answer_over(alloc, words, "image", image, 0)
+}
+
+/// Whether these words are answered by this status with this text, where this image is there.
+pub(crate) fn answers(
+    alloc: Global,
+    words: &[&str],
+    image: &[u8],
+    status: u8,
+    text: &[u8],
+) -> Result<bool, Fail> {
+    let answer = of_image(alloc, words, image)?;
+    Ok(answer.is(status, text))
+}
+
+/// Whether `show` answers by this text to the image that these words make of an image.
+pub(crate) fn is_shown_after(
+    alloc: Global,
+    words: &[&str],
+    image: &[u8],
+    text: &str,
+) -> Result<bool, Fail> {
+    let made = of_image(alloc, words, image)?;
+    answers(
+        alloc,
+        &["show", "image"],
+        made.text.as_slice(),
+        0,
+        text.as_bytes(),
+    )
+}
+
 /// The answer of `show` to an image, where no call fails.
 pub(crate) fn shown(alloc: Global, image: &[u8]) -> Result<Answer, Fail> {
-    let mut shelf = shelf_with(alloc, image, 0)?;
-    answer_of(alloc, &["show", NAME], &mut shelf, 0)
+    answer_over(alloc, &["show", NAME], NAME, image, 0)
 }
 
 /// Whether `show` answers as the row says.
@@ -149,11 +234,18 @@ fn is_answered(alloc: Global, row: &Row) -> Result<bool, Fail> {
 }
 
 /// The name of the first row that has another answer.
-pub(crate) fn first_wrong(alloc: Global, rows: &[Row]) -> Result<Option<&'static str>, Fail> {
+fn first_wrong(alloc: Global, rows: &[Row]) -> Result<Option<&'static str>, Fail> {
     for row in rows {
         if !is_answered(alloc, row)? {
             return Ok(Some(row.name));
         }
     }
     Ok(None)
+}
+
+/// Asserts that `show` answers each row as it says.
+pub(crate) fn are_shown(rt: &impl Abort, alloc: Global, rows: &[Row]) -> Result<(), Fail> {
+    let wrong = first_wrong(alloc, rows)?;
+    same(rt, "the first wrong row", wrong, None);
+    Ok(())
 }

@@ -1,5 +1,5 @@
-//! The top call on whole images: rows whose answers were worked out by hand from the format. It holds
-//! tests alone.
+//! The top call on whole images and listings, and its commands of firmware's tables and of the pair of 8259A: rows
+//! whose answers were worked out by hand from the formats. It holds tests alone.
 #![tactic(auto)]
 
 #[cfg(test)]
@@ -10,6 +10,20 @@ mod commands;
 mod failing;
 #[cfg(test)]
 mod faults;
+#[cfg(test)]
+mod firmware;
+#[cfg(test)]
+mod firmware_differing;
+#[cfg(test)]
+mod firmware_failing;
+#[cfg(test)]
+mod firmware_faults;
+#[cfg(test)]
+mod firmware_many;
+#[cfg(test)]
+mod firmware_usual;
+#[cfg(test)]
+mod firmware_worked;
 #[cfg(test)]
 mod harness;
 #[cfg(test)]

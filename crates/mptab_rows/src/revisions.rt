@@ -1,8 +1,10 @@
 //! Tables of revision 1.1: shown, raised, in canonical form, audited and built, and a revision that is
 //! neither.
 
-use crate::commands::{built, of_image};
-use crate::harness::{POINTER, Piece, Row, first_wrong, image_with, same};
+use crate::harness::{
+    Answer, POINTER, Piece, Row, answers, are_shown, built, image_with, is_shown_after, of_image,
+    same,
+};
 use std::alloc::Global;
 use std::test::Fail;
 
@@ -85,13 +87,7 @@ end
 
 #[test]
 fn old_tables_are_shown(rt: HostRuntime) -> Result<(), Fail> {
-    same(
-        &rt,
-        "the first wrong row",
-        first_wrong(rt.alloc(), ROWS)?,
-        None,
-    );
-    Ok(())
+    are_shown(&rt, rt.alloc(), ROWS)
 }
 
 /// The image of the board with revision 1 in pointer and table.
@@ -108,45 +104,69 @@ fn old_image(alloc: Global) -> Result<Vec<u8>, Fail> {
     )
 }
 
+/// What these words answer to that image.
+fn old_image_after(alloc: Global, words: &[&str]) -> Result<Answer, Fail> {
+    let image = old_image(alloc)?;
+    of_image(alloc, words, image.as_slice())
+}
+
 #[test]
 fn old_tables_are_raised(rt: HostRuntime) -> Result<(), Fail> {
-    let image = old_image(rt.alloc())?;
-    let raised = of_image(rt.alloc(), &["raise", "image"], image.as_slice())?;
-    let shown = of_image(rt.alloc(), &["show", "image"], raised.text.as_slice())?;
-    assert!(rt; shown.is(0, BOARD.as_bytes()));
-    let again = of_image(rt.alloc(), &["raise", "image"], raised.text.as_slice())?;
-    assert!(rt; again.is(0, raised.text.as_slice()));
+    let raised = old_image_after(rt.alloc(), &["raise", "image"])?;
+    let image = raised.text.as_slice();
+    let shown = answers(rt.alloc(), &["show", "image"], image, 0, BOARD.as_bytes())?;
+    same(&rt, "the listing", shown, true);
+    let again = answers(rt.alloc(), &["raise", "image"], image, 0, image)?;
+    same(&rt, "raised again", again, true);
     Ok(())
 }
 
 #[test]
 fn old_tables_have_a_canonical_form(rt: HostRuntime) -> Result<(), Fail> {
     let image = old_image(rt.alloc())?;
-    let canonical = of_image(rt.alloc(), &["canon", "image"], image.as_slice())?;
-    let shown = of_image(rt.alloc(), &["show", "image"], canonical.text.as_slice())?;
-    assert!(rt; shown.is(0, OLD_CANONICAL.as_bytes()));
+    let canon = &["canon", "image"];
+    let right = is_shown_after(rt.alloc(), canon, image.as_slice(), OLD_CANONICAL)?;
+    same(&rt, "the canonical form", right, true);
     Ok(())
 }
 
 #[test]
 fn two_revisions_are_a_finding(rt: HostRuntime) -> Result<(), Fail> {
     let image = image_with(rt.alloc(), SIZE, &[OLD_POINTER, AT])?;
-    let audited = of_image(rt.alloc(), &["audit", "image"], image.as_slice())?;
     let want = "rule 8 entry - other -\nrule 20 entry - other -\nfindings 2\n";
-    assert!(rt; audited.is(1, want.as_bytes()));
+    let audit = &["audit", "image"];
+    let right = answers(rt.alloc(), audit, image.as_slice(), 1, want.as_bytes())?;
+    same(&rt, "the findings", right, true);
     Ok(())
+}
+
+/// Whether `show` answers by a listing to the image that is built of it.
+fn is_built_and_shown(alloc: Global, listing: &str) -> Result<bool, Fail> {
+    let image = built(alloc, listing.as_bytes())?;
+    answers(
+        alloc,
+        &["show", "image"],
+        image.text.as_slice(),
+        0,
+        listing.as_bytes(),
+    )
+}
+
+/// The listing of revision 1 with an extended entry.
+fn listing_with_an_extended_entry(alloc: Global) -> Result<Vec<u8>, Fail> {
+    let mut text = Vec::new(alloc);
+    text.extend_from_slice(OLD_BOARD.as_bytes())?;
+    text.truncate(OLD_BOARD.len() - 4);
+    text.extend_from_slice(b"opaque kind C8 rest -\nend\n")?;
+    Ok(text)
 }
 
 #[test]
 fn old_listings_are_built(rt: HostRuntime) -> Result<(), Fail> {
-    let image = built(rt.alloc(), OLD_BOARD.as_bytes())?;
-    let shown = of_image(rt.alloc(), &["show", "image"], image.text.as_slice())?;
-    assert!(rt; shown.is(0, OLD_BOARD.as_bytes()));
-    let mut text = Vec::new(rt.alloc());
-    text.extend_from_slice(OLD_BOARD.as_bytes())?;
-    text.truncate(OLD_BOARD.len() - 4);
-    text.extend_from_slice(b"opaque kind C8 rest -\nend\n")?;
-    let refused = built(rt.alloc(), text.as_slice())?;
-    assert!(rt; refused.is(8, b"mptab: listing line 5 Form\n"));
+    let shown = is_built_and_shown(rt.alloc(), OLD_BOARD)?;
+    same(&rt, "the listing", shown, true);
+    let text = listing_with_an_extended_entry(rt.alloc())?;
+    let refused = built(rt.alloc(), text.as_slice())?.is(8, b"mptab: listing line 5 Form\n");
+    same(&rt, "an extended entry", refused, true);
     Ok(())
 }

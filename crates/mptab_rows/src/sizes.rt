@@ -1,7 +1,7 @@
 //! Sizes that cut the words of the search, its areas, the pointer, the header, the base and the extended
 //! part.
 
-use crate::harness::{Piece, Row, SMALL_POINTER as POINTER, WORD, first_wrong, same};
+use crate::harness::{Piece, Row, SMALL_POINTER as POINTER, WORD, are_shown};
 use std::test::Fail;
 
 /// The table, directly after the pointer.
@@ -303,7 +303,5 @@ end
 
 #[test]
 fn sizes_that_cut(rt: HostRuntime) -> Result<(), Fail> {
-    let wrong = first_wrong(rt.alloc(), SIZES)?;
-    same(&rt, "the first wrong row", wrong, None);
-    Ok(())
+    are_shown(&rt, rt.alloc(), SIZES)
 }

@@ -116,56 +116,56 @@ fn every_form(rt: HostRuntime) -> Result<(), Fail> {
     Ok(())
 }
 
-/// Whether this part of a base entry is a cut entry.
-fn is_cut_base(alloc: Global, part: &[u8]) -> Result<bool, Fail> {
-    let answer = answer_with(alloc, part, 1, &[])?;
-    Ok(answer.is(7, b"mptab: fault 11 CutEntry at 0000053C\n"))
+/// Entries of one part of a table, and the answer to one that is cut.
+struct Part {
+    is_base: bool,
+    entries: &'static [Entry],
+    cut: &'static [u8],
 }
 
-/// Whether every part of a base entry is a cut entry, and the whole is accepted.
-fn is_each_cut_base(alloc: Global, entry: &[u8]) -> Result<bool, Fail> {
-    for kept in 1..entry.len() {
-        let (part, _) = entry.split_at(kept);
-        if !is_cut_base(alloc, part)? {
+const BASE_PART: Part = Part {
+    is_base: true,
+    entries: BASE,
+    cut: b"mptab: fault 11 CutEntry at 0000053C\n",
+};
+
+const EXT_PART: Part = Part {
+    is_base: false,
+    entries: EXT,
+    cut: b"mptab: fault 16 CutExtEntry at 0000053C\n",
+};
+
+/// The answer to a board with these bytes of an entry in that part alone.
+fn answer_in(alloc: Global, part: &Part, bytes: &[u8]) -> Result<Answer, Fail> {
+    if part.is_base {
+        answer_with(alloc, bytes, 1, &[])
+    } else {
+        answer_with(alloc, &[], 0, bytes)
+    }
+}
+
+/// Whether the first bytes of an entry, so many of them, are a cut entry.
+fn is_cut(alloc: Global, part: &Part, bytes: &[u8], kept: usize) -> Result<bool, Fail> {
+    let first = bytes.get(..kept).unwrap_or(bytes);
+    let answer = answer_in(alloc, part, first)?;
+    Ok(answer.is(7, part.cut))
+}
+
+/// Whether every beginning of an entry is a cut entry, and the whole is accepted.
+fn is_each_cut(alloc: Global, part: &Part, bytes: &[u8]) -> Result<bool, Fail> {
+    for kept in 1..bytes.len() {
+        if !is_cut(alloc, part, bytes, kept)? {
             return Ok(false);
         }
     }
-    let whole = answer_with(alloc, entry, 1, &[])?;
+    let whole = answer_in(alloc, part, bytes)?;
     Ok(whole.status == 0)
 }
 
-/// The first base entry of which some part is another answer than a cut entry, or which isn't accepted whole.
-fn first_uncut_base(alloc: Global) -> Result<Option<&'static str>, Fail> {
-    for entry in BASE {
-        if !is_each_cut_base(alloc, entry.bytes)? {
-            return Ok(Some(entry.line));
-        }
-    }
-    Ok(None)
-}
-
-/// The same as `is_cut_base`, of an extended entry.
-fn is_cut_ext(alloc: Global, part: &[u8]) -> Result<bool, Fail> {
-    let answer = answer_with(alloc, &[], 0, part)?;
-    Ok(answer.is(7, b"mptab: fault 16 CutExtEntry at 0000053C\n"))
-}
-
-/// The same as `is_each_cut_base`, of an extended entry.
-fn is_each_cut_ext(alloc: Global, entry: &[u8]) -> Result<bool, Fail> {
-    for kept in 1..entry.len() {
-        let (part, _) = entry.split_at(kept);
-        if !is_cut_ext(alloc, part)? {
-            return Ok(false);
-        }
-    }
-    let whole = answer_with(alloc, &[], 0, entry)?;
-    Ok(whole.status == 0)
-}
-
-/// The same as `first_uncut_base`, of extended entries.
-fn first_uncut_ext(alloc: Global) -> Result<Option<&'static str>, Fail> {
-    for entry in EXT {
-        if !is_each_cut_ext(alloc, entry.bytes)? {
+/// The first entry of which some beginning has another answer than a cut entry, or which isn't accepted whole.
+fn first_uncut(alloc: Global, part: &Part) -> Result<Option<&'static str>, Fail> {
+    for entry in part.entries {
+        if !is_each_cut(alloc, part, entry.bytes)? {
             return Ok(Some(entry.line));
         }
     }
@@ -174,8 +174,18 @@ fn first_uncut_ext(alloc: Global) -> Result<Option<&'static str>, Fail> {
 
 #[test]
 fn every_cut(rt: HostRuntime) -> Result<(), Fail> {
-    same(&rt, "a base entry", first_uncut_base(rt.alloc())?, None);
-    same(&rt, "an extended entry", first_uncut_ext(rt.alloc())?, None);
+    same(
+        &rt,
+        "a base entry",
+        first_uncut(rt.alloc(), &BASE_PART)?,
+        None,
+    );
+    same(
+        &rt,
+        "an extended entry",
+        first_uncut(rt.alloc(), &EXT_PART)?,
+        None,
+    );
     Ok(())
 }
 

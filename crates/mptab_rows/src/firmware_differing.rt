@@ -1,8 +1,9 @@
 //! Platforms whose tables of firmware have more than one line: an EISA bus with a level interrupt, and two PCI
 //! devices with two wires.
 
-use crate::harness::{Row, first_wrong, same};
-use crate::usual::{END, FIRST, MADT};
+use crate::firmware::{Row, are_answered};
+use crate::firmware_usual::MADT;
+use crate::usual::{END, FIRST};
 use std::test::Fail;
 
 /// Default configuration 3, whose bus is EISA.
@@ -77,17 +78,18 @@ const TWO_WIRES_ROWS: &[Row] = &[
 
 #[test]
 fn differences(rt: HostRuntime) -> Result<(), Fail> {
-    same(
+    are_answered(
         &rt,
+        rt.alloc(),
         "the first wrong row of EISA",
-        first_wrong(rt.alloc(), EISA, EISA_ROWS)?,
-        None,
-    );
-    same(
+        EISA,
+        EISA_ROWS,
+    )?;
+    are_answered(
         &rt,
+        rt.alloc(),
         "the first wrong row of two wires",
-        first_wrong(rt.alloc(), TWO_WIRES, TWO_WIRES_ROWS)?,
-        None,
-    );
-    Ok(())
+        TWO_WIRES,
+        TWO_WIRES_ROWS,
+    )
 }

@@ -1,8 +1,8 @@
 use Rattle.std.proofs.Common.{◌≡◌, ◌∙◌, List, All, get_or, length, map, refl, sym, ap, subst, arith}
 use Rattle.std.specs.List.{range_with_len}
 use Rattle.mpb_latch.specs.Seats.{CollectorSeat, fresh_collector_seat}
-use Rattle.mpb_latch_rows.proofs.Lists.{written_back, made_places, kept_places}
-use Rattle.mpb_latch_rows.proofs.crew.account_of.Goals as goal
+use Rattle.mpb_bus_rows.proofs.Lists.{written_back, made_places, kept_places}
+use Rattle.mpb_bus_rows.proofs.latch_crew.account_of.Goals as goal
 
 pub close-requires-clause-collectors : goal.close-requires-clause-collectors
 close-requires-clause-collectors g c =

@@ -1,7 +1,8 @@
 //! Files that are refused, for each reason alone, and which of two comes first.
 
-use crate::harness::{Row, first_wrong, same};
-use crate::usual::{CALLS, MADT, USUAL};
+use crate::firmware::{Row, are_answered};
+use crate::firmware_usual::{CALLS, MADT};
+use crate::usual::usual;
 use std::test::Fail;
 
 /// Each reason of a MADT, and the earlier of two.
@@ -218,34 +219,24 @@ const EARLIER: &[Row] = &[
 
 #[test]
 fn refused_tables(rt: HostRuntime) -> Result<(), Fail> {
-    same(
+    are_answered(&rt, rt.alloc(), "the first wrong MADT", usual(), MADTS)?;
+    are_answered(
         &rt,
-        "the first wrong MADT",
-        first_wrong(rt.alloc(), USUAL, MADTS)?,
-        None,
-    );
-    same(
-        &rt,
+        rt.alloc(),
         "the first wrong routing table",
-        first_wrong(rt.alloc(), USUAL, ROUTING_TABLES)?,
-        None,
-    );
-    Ok(())
+        usual(),
+        ROUTING_TABLES,
+    )
 }
 
 #[test]
 fn refused_calls_and_earlier_files(rt: HostRuntime) -> Result<(), Fail> {
-    same(
+    are_answered(
         &rt,
+        rt.alloc(),
         "the first wrong calls",
-        first_wrong(rt.alloc(), USUAL, CALLS_REFUSED)?,
-        None,
-    );
-    same(
-        &rt,
-        "the first wrong order",
-        first_wrong(rt.alloc(), USUAL, EARLIER)?,
-        None,
-    );
-    Ok(())
+        usual(),
+        CALLS_REFUSED,
+    )?;
+    are_answered(&rt, rt.alloc(), "the first wrong order", usual(), EARLIER)
 }

@@ -1,7 +1,9 @@
 //! Calls of shelf and sink that fail one by one, and files past their limit.
 
-use crate::harness::{Answer, answer_to, image_of, same, shelf_of};
-use crate::usual::{CALLS, MADT, PIR, USUAL};
+use crate::firmware::answer_beside;
+use crate::firmware_usual::{CALLS, MADT, PIR};
+use crate::harness::{Answer, image_of, same};
+use crate::usual::usual;
 use std::alloc::Global;
 use std::process::Abort;
 use std::test::Fail;
@@ -49,9 +51,7 @@ const CASES: &[Case] = &[
 
 /// The answer to a case whose call of the shelf with this number fails, and whose put with that.
 fn failing(alloc: Global, image: &[u8], case: &Case, call: u64, put: u64) -> Result<Answer, Fail> {
-    let mut shelf = shelf_of(alloc, image, case.file)?;
-    shelf.fail(call)?;
-    answer_to(alloc, case.words, &mut shelf, put)
+    answer_beside(alloc, case.words, image, case.file, call, put)
 }
 
 /// How many calls of the shelf a case makes: one that fails behind the last changes nothing.
@@ -67,46 +67,44 @@ fn calls_of(alloc: Global, image: &[u8], case: &Case) -> Result<u64, Fail> {
 /// Asserts that each failing call is told, and which file the first and the last were for.
 fn tells_failures(rt: &impl Abort, alloc: Global, image: &[u8], case: &Case) -> Result<(), Fail> {
     let calls = calls_of(alloc, image, case)?;
-    let first = failing(alloc, image, case, 1, 0)?;
-    same(
-        rt,
-        "the first call",
-        first.is(4, b"mptab: cannot read image\n"),
-        true,
-    );
-    let last = failing(alloc, image, case, calls, 0)?;
-    same(rt, "the last call", last.is(4, case.last), true);
-    let put = failing(alloc, image, case, 0, 1)?;
-    same(rt, "the first put", put.is(5, b""), true);
+    let first = failing(alloc, image, case, 1, 0)?.is(4, b"mptab: cannot read image\n");
+    same(rt, "the first call", first, true);
+    let last = failing(alloc, image, case, calls, 0)?.is(4, case.last);
+    same(rt, "the last call", last, true);
+    let put = failing(alloc, image, case, 0, 1)?.is(5, b"");
+    same(rt, "the first put", put, true);
     Ok(())
 }
 
 #[test]
 fn failures(rt: HostRuntime) -> Result<(), Fail> {
-    let image = image_of(rt.alloc(), USUAL)?;
+    let image = image_of(rt.alloc(), usual())?;
     for case in CASES {
         tells_failures(&rt, rt.alloc(), image.as_slice(), case)?;
     }
     Ok(())
 }
 
-/// The answer to these words with a file of 1,048,577 bytes.
-fn past_limit(alloc: Global, image: &[u8], words: &[&str]) -> Result<Answer, Fail> {
+/// Whether these words are answered so with a file of 1,048,577 bytes.
+fn is_past_limit(alloc: Global, image: &[u8], words: &[&str]) -> Result<bool, Fail> {
     let bytes = vec![in alloc; 0u8; 1048577]?;
-    let mut shelf = shelf_of(alloc, image, bytes.as_slice())?;
-    answer_to(alloc, words, &mut shelf, 0)
+    let answer = answer_beside(alloc, words, image, bytes.as_slice(), 0, 0)?;
+    Ok(answer.is(10, b"mptab: too large file 1048577\n"))
 }
+
+/// A MADT, a routing table and calls.
+const READ: &[&[&str]] = &[
+    &["madtcmp", "image", "0000", "file"],
+    &["pircmp", "image", "file"],
+    &["pic", "image", "script", "file"],
+];
 
 #[test]
 fn limits(rt: HostRuntime) -> Result<(), Fail> {
-    let want = b"mptab: too large file 1048577\n";
-    let image = image_of(rt.alloc(), USUAL)?;
-    let image = image.as_slice();
-    let madt = past_limit(rt.alloc(), image, &["madtcmp", "image", "0000", "file"])?;
-    same(&rt, "a MADT", madt.is(10, want), true);
-    let pir = past_limit(rt.alloc(), image, &["pircmp", "image", "file"])?;
-    same(&rt, "a routing table", pir.is(10, want), true);
-    let pic = past_limit(rt.alloc(), image, &["pic", "image", "script", "file"])?;
-    same(&rt, "calls", pic.is(10, want), true);
+    let image = image_of(rt.alloc(), usual())?;
+    for words in READ {
+        let right = is_past_limit(rt.alloc(), image.as_slice(), words)?;
+        same(&rt, "a file past its limit", right, true);
+    }
     Ok(())
 }

@@ -2,9 +2,8 @@
 
 ghost use Rattle.std.specs.Prelude.{◌<◌};
 
-use crate::harness::{Answer, answer_to, built, same};
-use crate::usual::{MADT, PIR};
-use mpt_base::MemShelf;
+use crate::firmware_usual::{MADT, PIR};
+use crate::harness::{Answer, answer_of, built, same, shelf_of};
 use std::alloc::Global;
 use std::test::Fail;
 
@@ -13,15 +12,19 @@ pointer at 000F0000 table 00080000 revision 04 features 0000000000
 header revision 04 oem \"MPTAB   \" product \"BOARD       \" oemtable 00000000 oemsize 0000 local FEE00000 reserved 00
 ";
 
+/// What `build` answers to a listing that ends with these lines.
+fn image_with_lines(alloc: Global, lines: &str) -> Result<Answer, Fail> {
+    let text = format!(in alloc; "{HEAD}{lines}end\n")?;
+    built(alloc, text.as_str().as_bytes())
+}
+
 /// The answer of a command to the image of a listing that ends with these lines.
 fn of_lines(alloc: Global, command: &[&str], lines: &str) -> Result<Answer, Fail> {
-    let text = format!(in alloc; "{HEAD}{lines}end\n")?;
-    let image = built(alloc, text.as_str().as_bytes())?;
-    let mut shelf = MemShelf::new(alloc);
-    shelf.add("image", image.text.as_slice())?;
+    let image = image_with_lines(alloc, lines)?;
+    let mut shelf = shelf_of(alloc, "image", image.text.as_slice())?;
     shelf.add("madt", MADT)?;
     shelf.add("pir", PIR)?;
-    answer_to(alloc, command, &mut shelf, 0)
+    answer_of(alloc, command, &mut shelf, 0)
 }
 
 /// So many processors.
@@ -40,24 +43,12 @@ fn processors(alloc: Global, count: u32) -> Result<String, Fail> {
 #[test]
 fn many_processors(rt: HostRuntime) -> Result<(), Fail> {
     let lines = processors(rt.alloc(), 256)?;
-    let many = of_lines(rt.alloc(), &["madt", "image", "0000"], lines.as_str())?;
-    same(
-        &rt,
-        "256 processors",
-        many.is(13, b"mptab: madt many processors 256\n"),
-        true,
-    );
-    let compared = of_lines(
-        rt.alloc(),
-        &["madtcmp", "image", "0000", "madt"],
-        lines.as_str(),
-    )?;
-    same(
-        &rt,
-        "256 processors compared",
-        compared.is(0, b"differs 0\n"),
-        true,
-    );
+    let want = b"mptab: madt many processors 256\n";
+    let many = of_lines(rt.alloc(), &["madt", "image", "0000"], lines.as_str())?.is(13, want);
+    same(&rt, "256 processors", many, true);
+    let compare = &["madtcmp", "image", "0000", "madt"];
+    let compared = of_lines(rt.alloc(), compare, lines.as_str())?.is(0, b"differs 0\n");
+    same(&rt, "256 processors compared", compared, true);
     Ok(())
 }
 
@@ -83,20 +74,12 @@ fn wires(alloc: Global, count: u32) -> Result<String, Fail> {
 #[test]
 fn many_links(rt: HostRuntime) -> Result<(), Fail> {
     let lines = wires(rt.alloc(), 256)?;
-    let many = of_lines(rt.alloc(), &["pirmake", "image"], lines.as_str())?;
-    same(
-        &rt,
-        "256 wires",
-        many.is(15, b"mptab: pir many links 256\n"),
-        true,
-    );
-    let compared = of_lines(rt.alloc(), &["pircmp", "image", "pir"], lines.as_str())?;
-    same(
-        &rt,
-        "256 wires compared",
-        compared.ends(1, b"bus 01 device 1F pin D onlymp\ndiffers 255\n"),
-        true,
-    );
+    let want = b"mptab: pir many links 256\n";
+    let many = of_lines(rt.alloc(), &["pirmake", "image"], lines.as_str())?.is(15, want);
+    same(&rt, "256 wires", many, true);
+    let last = b"bus 01 device 1F pin D onlymp\ndiffers 255\n";
+    let compared = of_lines(rt.alloc(), &["pircmp", "image", "pir"], lines.as_str())?.ends(1, last);
+    same(&rt, "256 wires compared", compared, true);
     Ok(())
 }
 
@@ -122,14 +105,20 @@ fn devices(alloc: Global, count: u32, turn: u32) -> Result<String, Fail>
     Ok(lines)
 }
 
+/// Whether 4,094 devices on so many wires in turn are too many slots.
+fn has_many_slots(alloc: Global, turn: u32) -> Result<bool, Fail>
+    requires { 0 < turn }
+{
+    let lines = devices(alloc, 4094, turn)?;
+    let answer = of_lines(alloc, &["pirmake", "image"], lines.as_str())?;
+    Ok(answer.is(15, b"mptab: pir many slots 4094\n"))
+}
+
 #[test]
 fn many_slots(rt: HostRuntime) -> Result<(), Fail> {
-    let want = b"mptab: pir many slots 4094\n";
-    let lines = devices(rt.alloc(), 4094, 1)?;
-    let many = of_lines(rt.alloc(), &["pirmake", "image"], lines.as_str())?;
-    same(&rt, "4,094 devices", many.is(15, want), true);
-    let lines = devices(rt.alloc(), 4094, 256)?;
-    let many = of_lines(rt.alloc(), &["pirmake", "image"], lines.as_str())?;
-    same(&rt, "with 256 wires", many.is(15, want), true);
+    let one = has_many_slots(rt.alloc(), 1)?;
+    same(&rt, "4,094 devices", one, true);
+    let more = has_many_slots(rt.alloc(), 256)?;
+    same(&rt, "with 256 wires", more, true);
     Ok(())
 }

@@ -1,18 +1,11 @@
-//! Shared latches for tests, with their seats in hand.
+//! Shared latches, with their seats in hand.
 ghost use Rattle.std.specs.Prelude.{◌≡◌, [], ◌∷◌, length, IfOk};
 ghost use Rattle.mpb_spec.specs.Pulses.{IsInRange};
 ghost use Rattle.mpb_latch.specs.Seats.{fresh_device_seat, fresh_collector_seat};
 
 use mpb_latch::{Account, ColSeat, DevSeat, Latch, Pulse};
 use std::alloc::Global;
-use std::fmt::Debug;
-use std::process::Abort;
 use std::test::Fail;
-
-/// Asserts that a call gave what was wanted.
-pub(crate) fn same<T: PartialEq + Debug + Drop>(rt: &impl Abort, name: &str, got: T, want: T) {
-    assert_eq!(rt; got, want, "{name}");
-}
 
 /// A latch of one device, which pulses the same pin twice, and one I/O APIC.
 pub(crate) fn one_each(alloc: Global, pulse: Pulse) -> Result<(Latch, DevSeat, ColSeat), Fail>

@@ -3,7 +3,7 @@
 ghost use Rattle.std.specs.Prelude.{◌≡◌, length, All, IfOk, vec_len, sum_by};
 ghost use Rattle.mpb_spec.specs.Pulses.{IsInRange};
 
-use crate::crew::account_of;
+use crate::latch_crew::account_of;
 use mpb_latch::{Account, Hit, Pulse};
 use std::alloc::Global;
 use std::test::Fail;

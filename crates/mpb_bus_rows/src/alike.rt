@@ -1,7 +1,8 @@
 //! The same calls on both latches, made by one thread: the same answers.
 
 use crate::beside::{both_collect, both_end, both_pulse, both_say, stay_quiet};
-use crate::harness::{closed, one_each, same, three_devices};
+use crate::harness::same;
+use crate::latches::{closed, one_each, three_devices};
 use mpb_latch::{Account, Hit, Latch, PlainLatch, Pulse};
 use std::process::Abort;
 use std::test::Fail;

@@ -1,10 +1,10 @@
 //! The usual board: its tables of firmware, what a changed one differs in, and calls of the pair of 8259A on
 //! each way of INTR.
 
-use crate::harness::{Row, first_wrong, same};
+use crate::firmware::{Row, are_answered};
+use crate::firmware_usual::{CALLS, MADT, PIR, TWO_PROCESSORS};
 use crate::usual::{
-    CALLS, END, FIRST, IMCR_POINTER, LOCAL_INTR, LOCAL_NMI, MADT, PIR, POINTER, TO_INTERRUPTS,
-    TWO_PROCESSORS, USUAL,
+    END, FIRST, IMCR_POINTER, LOCAL_INTR, LOCAL_NMI, POINTER, to_interrupts, usual,
 };
 use std::test::Fail;
 
@@ -76,13 +76,7 @@ const ROWS: &[Row] = &[
 
 #[test]
 fn usual_board(rt: HostRuntime) -> Result<(), Fail> {
-    same(
-        &rt,
-        "the first wrong row",
-        first_wrong(rt.alloc(), USUAL, ROWS)?,
-        None,
-    );
-    Ok(())
+    are_answered(&rt, rt.alloc(), "the first wrong row", usual(), ROWS)
 }
 
 /// The calls where INTR isn't wired to LINTIN 0: they come by pin 0 of the I/O APIC.
@@ -114,27 +108,16 @@ const DIRECT: &[Row] = &[Row {
 
 #[test]
 fn ways_of_intr(rt: HostRuntime) -> Result<(), Fail> {
-    let without = &[FIRST, POINTER, TO_INTERRUPTS, LOCAL_NMI, END];
-    same(
-        &rt,
-        "by a pin",
-        first_wrong(rt.alloc(), without, BY_PIN)?,
-        None,
-    );
-    same(
-        &rt,
-        "closed",
-        first_wrong(rt.alloc(), TWO_PROCESSORS, CLOSED)?,
-        None,
-    );
-    let imcr = &[
+    let without = [FIRST, POINTER, to_interrupts(), LOCAL_NMI, END];
+    are_answered(&rt, rt.alloc(), "by a pin", &without, BY_PIN)?;
+    are_answered(&rt, rt.alloc(), "closed", TWO_PROCESSORS, CLOSED)?;
+    let imcr = [
         FIRST,
         IMCR_POINTER,
-        TO_INTERRUPTS,
+        to_interrupts(),
         LOCAL_INTR,
         LOCAL_NMI,
         END,
     ];
-    same(&rt, "direct", first_wrong(rt.alloc(), imcr, DIRECT)?, None);
-    Ok(())
+    are_answered(&rt, rt.alloc(), "direct", &imcr, DIRECT)
 }
