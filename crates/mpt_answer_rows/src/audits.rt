@@ -3,6 +3,7 @@
 use crate::harness::same;
 use crate::tables::{Part, bus, cpu, default_tables, int, io, lint, listed, with_entries};
 use mpt_audit::audit;
+use mpt_rules::Finding;
 use mpt_spec::{Base, Tables};
 use mpt_write::well_formed;
 use std::alloc::{AllocError, Global};
@@ -15,20 +16,27 @@ const NO: u32 = 65_535;
 /// A finding: rule, entry and other entry.
 type Row = (u8, u32, u32);
 
+// findings as rows
+fn rows_of(alloc: Global, found: &[Finding]) -> Option<Vec<Row>> {
+    let mut rows = Vec::new(alloc);
+    for finding in found {
+        let row = (finding.rule, finding.entry, finding.other);
+        if rows.push(row).is_err() {
+            return None;
+        }
+    }
+    Some(rows)
+}
+
 // the findings of well formed tables, in their order
 fn findings_of(alloc: Global, tables: &Tables) -> Option<Vec<Row>> {
     if !well_formed(tables) {
         return None;
     }
-    let Ok(found) = audit(alloc, tables) else {
-        return None;
-    };
-    let mut rows = Vec::new(alloc);
-    for finding in found.as_slice() {
-        let row = (finding.rule, finding.entry, finding.other);
-        rows.push(row).ok()?;
+    match audit(alloc, tables) {
+        Ok(found) => rows_of(alloc, found.as_slice()),
+        Err(_) => None,
     }
-    Some(rows)
 }
 
 // just these findings are made of the tables, in this order
@@ -332,14 +340,20 @@ fn each_rule_on_extended_entries(rt: HostRuntime) {
 
 // a table of 256 buses, each the parent of the one before, and the last below the first
 fn ring(alloc: Global) -> Result<Tables, AllocError> {
-    let mut base = Vec::from_slice(alloc, &[cpu(0, 3)])?;
+    let mut base = Vec::new(alloc);
     let mut ext = Vec::new(alloc);
+    push_ring(&mut base, &mut ext)?;
+    listed(alloc, base.as_slice(), ext.as_slice())
+}
+
+fn push_ring(base: &mut Vec<Base>, ext: &mut Vec<Part>) -> Result<(), AllocError> {
+    base.push(cpu(0, 3))?;
     for id in 0..=255u8 {
         base.push(bus(id, *b"PCI   "))?;
         ext.push(Part::Hierarchy(id, 0, id.wrapping_add(1)))?;
     }
     base.push(io(2, 1))?;
-    listed(alloc, base.as_slice(), ext.as_slice())
+    Ok(())
 }
 
 // each bus is in a ring
@@ -427,22 +441,35 @@ fn rules_come_in_their_order(rt: HostRuntime) -> Result<(), Fail> {
     Ok(())
 }
 
+/// Feature byte 2 of the pointer, byte 43 of the header, and what is found of them.
+const RESERVED: &[(u8, u8, &[Row])] = &[
+    (0xC0, 0, &[]),
+    (0x20, 0, &[(15, NO, NO)]),
+    (0, 1, &[(15, NO, NO)]),
+];
+
+// the tables of a processor and an I/O APIC with that feature byte and that byte of the header
+fn with_reserved(alloc: Global, feature: u8, reserved: u8) -> Result<Tables, AllocError> {
+    with_entries(alloc, &[cpu(0, 3), io(2, 1)], &[], feature, reserved)
+}
+
+// just these findings are made of a default configuration with the feature bytes 2 and 5
+fn default_finds(rt: &impl Abort, alloc: Global, number: u8, second: u8, fifth: u8, want: &[Row]) {
+    let tables = default_tables(number, second, fifth);
+    same_findings(rt, alloc, "of a default", &tables, want);
+}
+
 // of the pointer's and the header's reserved bits, and of a default configuration
 #[test]
 fn reserved_bits_of_pointer_and_header(rt: HostRuntime) -> Result<(), Fail> {
     let alloc = rt.alloc();
-    let base = [cpu(0, 3), io(2, 1)];
-    let one = [(15, NO, NO)];
-    let rows: [(u8, u8, &[Row]); 3] = [(0xC0, 0, &[]), (0x20, 0, &one), (0, 1, &one)];
-    for (feature, reserved, want) in rows {
-        let tables = with_entries(alloc, &base, &[], feature, reserved)?;
+    for (feature, reserved, want) in RESERVED {
+        let tables = with_reserved(alloc, *feature, *reserved)?;
         same_findings(&rt, alloc, "of a listed table", &tables, want);
     }
     for number in 1..=7u8 {
-        let tables = default_tables(number, 0xC0, 0);
-        same_findings(&rt, alloc, "none of a default", &tables, &[]);
-        let tables = default_tables(number, 0, 4);
-        same_findings(&rt, alloc, "one of a default", &tables, &one);
+        default_finds(&rt, alloc, number, 0xC0, 0, &[]);
+        default_finds(&rt, alloc, number, 0, 4, &[(15, NO, NO)]);
     }
     Ok(())
 }

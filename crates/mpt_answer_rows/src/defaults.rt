@@ -128,23 +128,26 @@ fn same_int(rt: &impl Abort, number: u8, found: Option<&IntEntry>, want: IntEntr
     same(rt, "a row", (number, got), (number, Some(want)));
 }
 
+// the platform of a default configuration has what its row says
+fn same_platform(rt: &impl Abort, row: Row, p: &Platform) {
+    let (number, first, second, local, io) = row;
+    same_processors(rt, number, p.processors.as_slice(), local);
+    same_buses(rt, number, p.buses.as_slice(), first, second);
+    same_ios(rt, number, p.ios.as_slice(), io);
+    same_ints(rt, number, p.ints.as_slice());
+    same_lints(rt, number, p.lints.as_slice());
+    let got = (number, p.imcr, p.local_address);
+    let want = (number, true, 0xFEE0_0000);
+    same(rt, "a default, its IMCR and its local APICs", got, want);
+}
+
 #[test]
 fn defaults_have_their_entries(rt: HostRuntime) {
-    for (number, first, second, local, io) in ROWS {
-        let Some(p) = platform(rt.alloc(), number) else {
+    for row in ROWS {
+        let Some(p) = platform(rt.alloc(), row.0) else {
             panic!(rt; "no memory");
         };
-        same_processors(&rt, number, p.processors.as_slice(), local);
-        same_buses(&rt, number, p.buses.as_slice(), first, second);
-        same_ios(&rt, number, p.ios.as_slice(), io);
-        same_ints(&rt, number, p.ints.as_slice());
-        same_lints(&rt, number, p.lints.as_slice());
-        same(
-            &rt,
-            "a default, its IMCR and its local APICs",
-            (number, p.imcr, p.local_address),
-            (number, true, 0xFEE0_0000),
-        );
+        same_platform(&rt, row, &p);
     }
 }
 
@@ -181,23 +184,34 @@ fn is_row(answer: &Answer, entry: u32, kind: u8, irq: u8, pin: u8, levels: u16) 
     *answer == Answer::Routed(expected)
 }
 
-fn are_rows(alloc: Global, number: u8, name: [u8; 6], elcr: u16) -> Option<bool> {
-    let p = platform(alloc, number)?;
+// whether the answers are the rows of these interrupts
+fn are_rows_of(ints: &[IntEntry], answers: &[Answer], levels: u16) -> bool {
+    let mut all = answers.len() == ints.len();
+    let mut at = 0u32;
+    for (answer, e) in answers.iter().zip(ints.iter()) {
+        all = all && is_row(answer, at, e.kind, e.irq, e.pin, levels);
+        at = at.saturating_add(1);
+    }
+    all
+}
+
+// whether a platform is routed by the rows of its interrupts
+fn is_routed(alloc: Global, p: &Platform, elcr: u16, levels: u16) -> Option<bool> {
     let ints = p.ints.as_slice();
     if ints.len() > 255 {
         return None;
     }
-    let Ok(answers) = routes(alloc, &p, elcr) else {
+    match routes(alloc, p, elcr) {
+        Ok(answers) => Some(are_rows_of(ints, answers.as_slice(), levels)),
+        Err(_) => None,
+    }
+}
+
+fn are_rows(alloc: Global, number: u8, name: [u8; 6], elcr: u16) -> Option<bool> {
+    let Some(p) = platform(alloc, number) else {
         return None;
     };
-    let levels = level_irqs(name, elcr);
-    let mut all = answers.len() == ints.len();
-    let mut at = 0u32;
-    for (answer, e) in answers.as_slice().iter().zip(ints.iter()) {
-        all = all && is_row(answer, at, e.kind, e.irq, e.pin, levels);
-        at = at.saturating_add(1);
-    }
-    Some(all)
+    is_routed(alloc, &p, elcr, level_irqs(name, elcr))
 }
 
 #[test]

@@ -5,7 +5,7 @@ use crate::harness::same;
 use crate::tables::entry;
 use mpt_route::{Answer, Platform, Route, Why, boot_processor_of, routes};
 use mpt_spec::{Bus, IntEntry, IoApic, Processor, Sequence};
-use std::alloc::Global;
+use std::alloc::{AllocError, Global};
 use std::process::Abort;
 
 // an I/O APIC with an id and flags
@@ -33,9 +33,22 @@ fn bus(id: u8, name: [u8; 6]) -> Bus {
     Bus { id, name }
 }
 
+// a platform of nothing
+fn empty(alloc: Global) -> Platform {
+    Platform {
+        processors: Sequence::new(Vec::new(alloc)),
+        buses: Sequence::new(Vec::new(alloc)),
+        ios: Sequence::new(Vec::new(alloc)),
+        ints: Sequence::new(Vec::new(alloc)),
+        lints: Sequence::new(Vec::new(alloc)),
+        imcr: false,
+        local_address: 0xFEE0_0000,
+    }
+}
+
 // a platform of five buses and six I/O APICs: of these the first is disabled, the fourth has the id of
 // the second, and the last is the fifth that is enabled; bus 0 has a second entry
-fn platform(alloc: Global, ints: &[IntEntry]) -> Option<Platform> {
+fn platform(alloc: Global, ints: &[IntEntry]) -> Result<Platform, AllocError> {
     let processors = [
         processor(7, 1),
         processor(9, 2),
@@ -51,23 +64,26 @@ fn platform(alloc: Global, ints: &[IntEntry]) -> Option<Platform> {
         bus(0, *b"ISA   "),
     ];
     let ios = [io(9, 0), io(2, 1), io(4, 1), io(2, 1), io(5, 1), io(6, 1)];
-    Some(Platform {
-        processors: Sequence::new(Vec::from_slice(alloc, &processors).ok()?),
-        buses: Sequence::new(Vec::from_slice(alloc, &buses).ok()?),
-        ios: Sequence::new(Vec::from_slice(alloc, &ios).ok()?),
-        ints: Sequence::new(Vec::from_slice(alloc, ints).ok()?),
-        lints: Sequence::new(Vec::new(alloc)),
-        imcr: false,
-        local_address: 0xFEE0_0000,
-    })
+    let mut platform = empty(alloc);
+    platform.processors = Sequence::new(Vec::from_slice(alloc, &processors)?);
+    platform.buses = Sequence::new(Vec::from_slice(alloc, &buses)?);
+    platform.ios = Sequence::new(Vec::from_slice(alloc, &ios)?);
+    platform.ints = Sequence::new(Vec::from_slice(alloc, ints)?);
+    Ok(platform)
 }
 
 fn answers(alloc: Global, ints: &[IntEntry], elcr: u16) -> Option<Vec<Answer>> {
-    let platform = platform(alloc, ints)?;
+    match platform(alloc, ints) {
+        Ok(platform) => answers_of(alloc, &platform, elcr),
+        Err(_) => None,
+    }
+}
+
+fn answers_of(alloc: Global, platform: &Platform, elcr: u16) -> Option<Vec<Answer>> {
     if platform.ints.as_slice().len() > 255 {
         return None;
     }
-    routes(alloc, &platform, elcr).ok()
+    routes(alloc, platform, elcr).ok()
 }
 
 // whether the answer of number `at` is this one
@@ -253,7 +269,7 @@ fn the_first_routed_entry_has_the_pin(rt: HostRuntime) {
 // a processor with BP alone, or EN alone, doesn't boot; the first with both does
 #[test]
 fn the_first_processor_with_both_flags_boots(rt: HostRuntime) {
-    let Some(platform) = platform(rt.alloc(), &[]) else {
+    let Ok(platform) = platform(rt.alloc(), &[]) else {
         panic!(rt; "no memory");
     };
     let Some(boot) = boot_processor_of(&platform) else {
