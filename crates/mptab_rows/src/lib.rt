@@ -1,9 +1,11 @@
-//! The top call on whole images and listings, and its commands of firmware's tables and of the pair of 8259A: rows
-//! whose answers were worked out by hand from the formats. It holds tests alone.
+//! The top call on whole images and listings, its commands of firmware's tables and of the pair of 8259A, and those
+//! that run a board or judge a run: rows whose answers were worked out by hand from the formats. It holds tests alone.
 #![tactic(auto)]
 
 #[cfg(test)]
 mod board;
+#[cfg(test)]
+mod boots;
 #[cfg(test)]
 mod commands;
 #[cfg(test)]

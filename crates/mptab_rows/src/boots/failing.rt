@@ -1,9 +1,10 @@
 //! Words that are no form, files that aren't there, and calls of shelf and sink that fail one by one.
 
-use crate::harness::{
-    Answer, BOTH, Case, IMAGE, NOTHING, ONE, REPORT, SCRIPT, USAGE, answer_of, answer_to, same,
+use crate::boots::harness::{
+    Answer, BOTH, Case, IMAGE, NOTHING, ONE, REPORT, SCRIPT, USAGE, answer_of, answer_to,
     script_of, shelf_of,
 };
+use crate::harness::same;
 use mpt_base::MemShelf;
 use std::alloc::Global;
 use std::sync::Wait;
@@ -164,7 +165,7 @@ fn is_answered<R: Threads + Wait + Sync>(
 }
 
 #[test]
-fn words(rt: HostRuntime) -> Result<(), Fail> {
+fn board_words(rt: HostRuntime) -> Result<(), Fail> {
     let mut shelf = shelf_of_words(rt.alloc())?;
     for case in WORDS {
         let right = is_answered(&rt, rt.alloc(), case, &mut shelf)?;
@@ -174,7 +175,7 @@ fn words(rt: HostRuntime) -> Result<(), Fail> {
 }
 
 #[test]
-fn top_call(rt: HostRuntime) -> Result<(), Fail> {
+fn board_top_call(rt: HostRuntime) -> Result<(), Fail> {
     let answer = answer_to(&rt, rt.alloc(), "boot", &ONE, b"page = 0x9F\n")?;
     same(&rt, "the report", answer.is(0, NOTHING), true);
     Ok(())
@@ -266,7 +267,7 @@ fn first_wrong_call<R: Threads + Wait + Sync>(
 }
 
 #[test]
-fn calls_of_the_shelf(rt: HostRuntime) -> Result<(), Fail> {
+fn board_calls_of_the_shelf(rt: HostRuntime) -> Result<(), Fail> {
     for command in BOTH {
         let wrong = first_wrong_call(&rt, rt.alloc(), command)?;
         same(&rt, command, wrong, None);
@@ -358,7 +359,7 @@ fn first_wrong_put<R: Threads + Wait + Sync>(
 }
 
 #[test]
-fn puts_of_the_sink(rt: HostRuntime) -> Result<(), Fail> {
+fn board_puts_of_the_sink(rt: HostRuntime) -> Result<(), Fail> {
     let report = long_report(rt.alloc())?;
     for command in BOTH {
         let wrong = first_wrong_put(&rt, rt.alloc(), command, report.as_str().as_bytes())?;
@@ -382,7 +383,7 @@ fn is_right_or_refused<R: Threads + Wait + Sync>(
 /// For runs outside the gate, in each of which one allocation fails: this test alone accepts status 9. Where its
 /// own image, script or words wanted the memory, it ends with that error.
 #[test]
-fn want_of_memory(rt: HostRuntime) -> Result<(), Fail> {
+fn board_want_of_memory(rt: HostRuntime) -> Result<(), Fail> {
     for (call, put, status) in [(0, 0, 0), (7, 0, 4), (8, 0, 4), (0, 1, 5), (0, 2, 5)] {
         let right = is_right_or_refused(&rt, rt.alloc(), call, put, status)?;
         same(&rt, "the status", (status, right), (status, true));

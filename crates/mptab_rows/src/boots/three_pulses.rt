@@ -1,6 +1,6 @@
 //! A board whose three devices pulse one pin, its script and its report, worked out by hand.
 
-use crate::tables::{Entry, Tables};
+use crate::boots::tables::{Entry, Tables};
 
 /// One processor, and an ISA source at INTIN 1 of one I/O APIC.
 pub(crate) const ONE_PIN: Tables = Tables::Listed(

@@ -1,10 +1,10 @@
 //! What every theme stands on: a row, the image of its tables, and the answer of the top call.
 
-use crate::tables::{Entry, Tables, listing_of};
+use crate::boots::tables::{Entry, Tables, listing_of};
+use crate::harness::{answer_of as still_answer_of, same, words_of};
 use mpt_base::{MemShelf, MemSink};
-use mptab_calls::{run, run_still};
+use mptab_calls::run;
 use std::alloc::Global;
-use std::fmt::Debug;
 use std::process::Abort;
 use std::sync::Wait;
 use std::test::Fail;
@@ -85,20 +85,6 @@ impl Answer {
     }
 }
 
-/// Asserts that two values are the same, at one place for every row.
-pub(crate) fn same<T: PartialEq + Debug + Drop>(rt: &impl Abort, name: &str, got: T, want: T) {
-    assert_eq!(rt; got, want, "{name}");
-}
-
-/// These words, as the top call takes them.
-pub(crate) fn words_of(alloc: Global, words: &[&str]) -> Result<Vec<String>, Fail> {
-    let mut owned = Vec::new(alloc);
-    for word in words {
-        owned.push(String::from_str(alloc, word)?)?;
-    }
-    Ok(owned)
-}
-
 /// A sink whose put of this number fails; 0 is none.
 pub(crate) fn sink_of(alloc: Global, failing: u64) -> Result<MemSink, Fail> {
     let mut sink = MemSink::new(alloc, ROOM)?;
@@ -122,10 +108,11 @@ pub(crate) fn answer_of<R: Threads + Wait + Sync>(
 
 /// The answer to these words by the call that starts no thread.
 fn still_answer(alloc: Global, words: &[&str], shelf: &mut MemShelf) -> Result<Answer, Fail> {
-    let owned = words_of(alloc, words)?;
-    let mut sink = sink_of(alloc, 0)?;
-    let status = run_still(alloc, owned.as_slice(), shelf, &mut sink);
-    Answer::with(alloc, status, &sink)
+    let answer = still_answer_of(alloc, words, shelf, 0)?;
+    Ok(Answer {
+        status: answer.status,
+        text: answer.text,
+    })
 }
 
 /// The image that `build` makes of this listing.

@@ -1,7 +1,8 @@
 //! Scripts that are refused, each key and each word's cause, and scripts at their limits.
 
-use crate::harness::{BOTH, NOTHING, ONE, Row, answer_to, are_answered, same, script_of};
-use crate::tables::{Entry, Tables};
+use crate::boots::harness::{BOTH, NOTHING, ONE, Row, answer_to, are_answered, script_of};
+use crate::boots::tables::{Entry, Tables};
+use crate::harness::same;
 use std::alloc::Global;
 use std::sync::Wait;
 use std::test::Fail;

@@ -1,7 +1,7 @@
 //! Pulses, registers, and the turns of an I/O APIC.
 
-use crate::harness::{Row, are_traced};
-use crate::tables::{Entry, Tables};
+use crate::boots::harness::{Row, are_traced};
+use crate::boots::tables::{Entry, Tables};
 use std::test::Fail;
 
 const ROWS: &[Row] = &[

@@ -1,8 +1,9 @@
 //! Boots by threads through a gate: each agent has a thread of its own, and what is printed is the history of
 //! the threads. It holds what no clause says.
 
-use crate::harness::{Answer, IMAGE, SCRIPT, same, shelf_of, sink_of, words_of};
-use crate::three_pulses::{ONE_PIN, THREE_PULSES_SCRIPT};
+use crate::boots::harness::{Answer, IMAGE, SCRIPT, shelf_of, sink_of};
+use crate::boots::three_pulses::{ONE_PIN, THREE_PULSES_SCRIPT};
+use crate::harness::{same, words_of};
 use mpb_spec::Agent;
 use mpt_base::MemShelf;
 use mptab_calls::{Gate, run_with};

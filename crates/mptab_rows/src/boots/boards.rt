@@ -1,8 +1,8 @@
 //! Boards that tables and a script don't describe, each cause alone, beside the nearest that they do; how many
 //! processors and I/O APICs a board has, at each limit on both sides.
 
-use crate::harness::{BOTH, Row, are_answered};
-use crate::tables::{Entry, Tables};
+use crate::boots::harness::{BOTH, Row, are_answered};
+use crate::boots::tables::{Entry, Tables};
 use std::test::Fail;
 
 /// Ids of processors and of I/O APICs.

@@ -1,7 +1,7 @@
 //! Two causes that stand together: the one that is told.
 
-use crate::harness::{BOTH, Row, are_answered};
-use crate::tables::{Entry, Tables};
+use crate::boots::harness::{BOTH, Row, are_answered};
+use crate::boots::tables::{Entry, Tables};
 use std::test::Fail;
 
 /// Tables and scripts for which two causes stand.

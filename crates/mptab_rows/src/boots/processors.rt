@@ -1,7 +1,7 @@
 //! Starts of processors, broadcasts, and the classes of vectors.
 
-use crate::harness::{Row, are_traced};
-use crate::tables::{Entry, Tables};
+use crate::boots::harness::{Row, are_traced};
+use crate::boots::tables::{Entry, Tables};
 use std::test::Fail;
 
 const ROWS: &[Row] = &[

@@ -1,7 +1,7 @@
 //! Level pins: causes, remote IRR, masks and falls.
 
-use crate::harness::{Row, are_traced};
-use crate::tables::{Entry, Tables};
+use crate::boots::harness::{Row, are_traced};
+use crate::boots::tables::{Entry, Tables};
 use std::test::Fail;
 
 const ROWS: &[Row] = &[

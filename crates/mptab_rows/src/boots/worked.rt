@@ -1,9 +1,10 @@
 //! Whole reports that were worked out by hand: processors that start or don't, an edge pin that three devices
 //! pulse, a level pin that is sent again, messages to logical destinations and of lowest priority.
 
-use crate::harness::{BOTH, Row, are_answered, boots_so, same};
-use crate::tables::{Entry, Tables};
-use crate::three_pulses::{ONE_PIN, THREE_PULSES, THREE_PULSES_SCRIPT};
+use crate::boots::harness::{BOTH, Row, are_answered, boots_so};
+use crate::boots::tables::{Entry, Tables};
+use crate::boots::three_pulses::{ONE_PIN, THREE_PULSES, THREE_PULSES_SCRIPT};
+use crate::harness::same;
 use std::test::Fail;
 
 /// One processor, and a PCI source at INTIN 16 of one I/O APIC: level, low.

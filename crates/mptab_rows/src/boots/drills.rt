@@ -1,6 +1,7 @@
 //! Drills: the summaries of three, and words that are none.
 
-use crate::harness::{Answer, Case, USAGE, answer_of, same};
+use crate::boots::harness::{Answer, Case, USAGE, answer_of};
+use crate::harness::same;
 use mpt_base::MemShelf;
 use std::alloc::Global;
 use std::sync::Wait;

@@ -1,7 +1,7 @@
 //! What a message does by its mode, its trigger and its outcome.
 
-use crate::harness::{Row, are_traced};
-use crate::tables::{Entry, Tables};
+use crate::boots::harness::{Row, are_traced};
+use crate::boots::tables::{Entry, Tables};
 use std::test::Fail;
 
 const ROWS: &[Row] = &[

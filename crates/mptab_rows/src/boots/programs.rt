@@ -1,8 +1,8 @@
 //! Boot programs: of each default configuration, of boards whose reports were worked out whole, and of a
 //! usual board.
 
-use crate::harness::{BOTH, Row, are_answered};
-use crate::tables::{Entry, Tables};
+use crate::boots::harness::{BOTH, Row, are_answered};
+use crate::boots::tables::{Entry, Tables};
 use std::test::Fail;
 
 /// A processor, two I/O APICs, a PCI interrupt at INTIN 16 of the second, the same again, and an ISA interrupt at
