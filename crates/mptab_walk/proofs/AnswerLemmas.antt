@@ -198,35 +198,10 @@ IsRefused-fault told name size at why is within inside first =
 pub IsRefused-none : (told : Option Files) (name : List ℕ) (size : ℕ) → IsSizeTold told name (Some size) → size ≤ limit_of (Image name) → IfTold told name HasNoPointer → IsRefused told (Image name) 6 no_pointer_line
 IsRefused-none told name size is within none = inl (refl, IsRead-told told (Image name) size HasNoPointer is within none, refl)
 
--- ---- a listing
-
 -- where the files are told, what holds of the bytes that were read holds of the file
 pub IsRead-bytes : (told : Option Files) (file : Named) (size : ℕ) (bytes : List ℕ) (P : List ℕ → Type 0) → IsSizeTold told (name_of file) (Some size) → size ≤ limit_of file → IfTold told (name_of file) (λ held. held ≡ bytes) → P bytes → IsRead told file P
 IsRead-bytes told file size bytes P is within same p =
     IsRead-told told file size P is within (IfTold-map told (name_of file) (λ held. held ≡ bytes) P (λ held e. subst P (sym e) p) same)
-
--- the tables of a listing that was read
-pub ListingGives-read : (told : Option Files) (name : List ℕ) (size : ℕ) (bytes : List ℕ) (tables : Tables) → IsSizeTold told name (Some size) → size ≤ limit_of (Listing name) → IfTold told name (λ held. held ≡ bytes) → FitsInImage tables → IsListingOf tables bytes → ListingGives told name tables
-ListingGives-read told name size bytes tables is within same fit lists = (fit, IsRead-bytes told (Listing name) size bytes (IsListingOf tables) is within same lists)
-
--- a listing is refused for the reason that its reader gives
-pub IsRefused-line : (told : Option Files) (name : List ℕ) (size n : ℕ) (bytes : List ℕ) (why : LineWhy) → IsSizeTold told name (Some size) → size ≤ limit_of (Listing name) → IfTold told name (λ held. held ≡ bytes) → IsFirstBadLine IsListing bytes n why → IsRefused told (Listing name) 8 (bad_line_line n why)
-IsRefused-line told name size n bytes why is within same bad = inl (refl, n, why, IsRead-bytes told (Listing name) size bytes (λ listing. IsFirstBadLine IsListing listing n why) is within same bad, refl)
-
-pub IsRefused-unfit : (told : Option Files) (name : List ℕ) (size n : ℕ) (bytes : List ℕ) → IsSizeTold told name (Some size) → size ≤ limit_of (Listing name) → IfTold told name (λ held. held ≡ bytes)
-    → (tables : Tables) × IsListingOf tables bytes × (¬ FitsInImage tables) × (n ≡ block_size tables.body) → IsRefused told (Listing name) 8 (unfit_line n)
-IsRefused-unfit told name size n bytes is within same (tables, lists, not, sum) =
-    inr (refl, tables, IsRead-bytes told (Listing name) size bytes (IsListingOf tables) is within same lists, not, ap unfit_line sum)
-
--- ---- a report
-
--- what a report says that was read
-pub ReportGives-read : (told : Option Files) (name : List ℕ) (size : ℕ) (bytes : List ℕ) (r : AReport) → IsSizeTold told name (Some size) → size ≤ limit_of (Report name) → IfTold told name (λ held. held ≡ bytes) → IsReportOf r bytes → ReportGives told name r
-ReportGives-read told name size bytes r is within same reads = IsRead-bytes told (Report name) size bytes (λ text. IsReportOf r text) is within same reads
-
--- a report is refused for its first bad line
-pub IsRefused-report : (told : Option Files) (name : List ℕ) (size n : ℕ) (bytes : List ℕ) (why : LineWhy) → IsSizeTold told name (Some size) → size ≤ limit_of (Report name) → IfTold told name (λ held. held ≡ bytes) → IsFirstBadLine IsReport bytes n why → IsRefused told (Report name) 8 (bad_report_line n why)
-IsRefused-report told name size n bytes why is within same bad = (refl, n, why, IsRead-bytes told (Report name) size bytes (λ report. IsFirstBadLine IsReport report n why) is within same bad, refl)
 
 -- ---- a drill
 

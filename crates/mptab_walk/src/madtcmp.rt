@@ -2,7 +2,7 @@
 
 ghost use Rattle.std.specs.Prelude.{◌≡◌, ◌≤◌, ◌<◌, ◌+◌, ◌^◌, ℕ, List, IfOk};
 ghost use Rattle.mpt_spec.specs.Canonical.{IsWellFormed};
-ghost use Rattle.mpt_route.specs.Platform.{platform_of};
+ghost use Rattle.mpt_route.specs.Platform.{platform_of, IsSmallPlatform};
 ghost use Rattle.mpt_route.specs.Routes.{routes_of};
 ghost use Rattle.mpf_answers.specs.LineDifferences.{line_differences_of};
 ghost use Rattle.mptab_walk.specs.Forms.{Madtcmp, AcpiTable, files_of};
@@ -19,7 +19,7 @@ use crate::words::MadtFiles;
 use mpf_answers::{LineDifference, line_differences, print_line_differences};
 use mpf_madt::Madt;
 use mpt_base::{NoMemory, Shelf, Sink};
-use mpt_route::{platform_of, routes};
+use mpt_route::{Platform, platform_of, routes};
 use mpt_table::Tables;
 use std::alloc::Global;
 
@@ -33,9 +33,26 @@ fn found_in(
     requires { IsWellFormed tables.now }
     ensures { IfOk result (λ found. found.items ≡ line_differences_of (platform_of tables.now) (routes_of (platform_of tables.now) elcr) madt.now) }
 {
-    let platform = platform_of(alloc, tables)?;
-    let answers = routes(alloc, &platform, elcr)?;
-    line_differences(alloc, &platform, answers.as_slice(), madt)
+    match platform_of(alloc, tables) {
+        Ok(platform) => found_on(alloc, &platform, elcr, madt),
+        Err(error) => Err(error),
+    }
+}
+
+// the same of the routes of a platform
+fn found_on(
+    alloc: Global,
+    platform: &Platform,
+    elcr: u16,
+    madt: &Madt,
+) -> Result<Vec<LineDifference>, NoMemory>
+    requires { IsSmallPlatform platform.now }
+    ensures { IfOk result (λ found. found.items ≡ line_differences_of platform.now (routes_of platform.now elcr) madt.now) }
+{
+    match routes(alloc, platform, elcr) {
+        Ok(answers) => line_differences(alloc, platform, answers.as_slice(), madt),
+        Err(error) => Err(error),
+    }
 }
 
 // their lines, and 1 where there is one
