@@ -1,7 +1,8 @@
 -- What the walk meets at a file is what is due to the form.
 use Rattle.std.proofs.Common.{◌≡◌, ℕ, ◌+◌, ◌≤◌, ◌<◌, ◌^◌, List, [], ◌∷◌, length, map, get_or, Option, Some, None, IfSome, IsSomeAnd, Result, Ok, Err, IfOk, IfErr, refl, sym, ap, subst, ◌∙◌, inl, inr, arith}
-use Rattle.std.specs.Prelude.{option_map}
+use Rattle.std.specs.Prelude.{option_map, nat_lt, if◌then◌else◌, Bool, true, false}
 use Rattle.std.proofs.lemmas.List.{length-map}
+use Rattle.std.proofs.lemmas.Bool.{ltb-true}
 use Rattle.mpt_base.specs.Outside.{Files, IsSizeTold}
 use Rattle.mpt_spec.specs.declared.tables.Tables.{Tables}
 use Rattle.mpt_spec.specs.Table.{Describes}
@@ -25,10 +26,10 @@ use Rattle.mptab_walk.specs.declared.words.StillCommand.{StillCommand}
 use Rattle.mptab_walk.specs.declared.words.StillCommand.TheVariants as still
 use Rattle.mptab_walk.specs.declared.words.TablesCommand.{TablesCommand}
 use Rattle.mptab_walk.specs.declared.words.TablesCommand.TheVariants as form
-use Rattle.mptab_walk.specs.Forms.{Form, Show, Audit, Canon, Raise, Madt, Pirmake, Build, Route, Trace, Boot, Drill, Replay, Madtcmp, Pircmp, Pic, IsForm, IsInRange, form_of_still, Named, Image, Listing, Script, Report, AcpiTable, RoutingTable, Calls, files_of, form_of_tables, file_of_tables, name_of, limit_of, named_of, IsRead}
+use Rattle.mptab_walk.specs.Forms.{Form, Show, Audit, Canon, Raise, Madt, Pirmake, Build, Route, Trace, Boot, Drill, Replay, Madtcmp, Pircmp, Pic, IsForm, IsInRange, form_of_still, Named, Image, Listing, Script, Report, AcpiTable, RoutingTable, Calls, files_of, form_of_tables, file_of_tables, name_of, limit_of, most_asked, named_of, IsRead}
 use Rattle.mptab_walk.specs.Commands.{status_of, ImageGives, ListingGives, GivesTables, IsUnderstood, IsRefused, IsText, IsAnswerTo, IsReadyFor, IsDrillDue, no_pointer_line, fault_line, bad_line_line, unfit_line, ReportGives, bad_report_line}
-use Rattle.mptab_walk.specs.Walk.{Outside, IsQuiet, IsDueOf, AsksOf, Reaches, IsFirstRead, most_of}
-use Rattle.mptab_walk.specs.Ending.{ending_status, ending_text, IsEnding, IsUndisturbed, Shelves, shelves}
+use Rattle.mptab_walk.specs.Walk.{Outside, IsQuiet, IsDueOf, AsksOf, Reaches, IsFirstRead, most_of, most_of_held}
+use Rattle.mptab_walk.specs.Ending.{ending_status, ending_text, answer_status, answer_text, IsEnding, IsUndisturbed, Shelves, shelves}
 use Rattle.mptab_walk.specs.declared.answer.Answer.{Answer}
 use Rattle.mpt_base.specs.declared.outside.NoMemory.{NoMemory as NoMemoryUnit}
 
@@ -90,11 +91,7 @@ source_there None s tables gives = tt
 source_there (Some files) (source.Image name) tables gives = read_there files (Image name.now) (λ image. Describes image tables) gives
 source_there (Some files) (source.Listing name) tables gives = read_there files (Listing name.now) (IsListingOf tables) gives.1
 
--- where memory is wanting behind it, that is due
-pub IsEnding-given : (told : Option Files) (before after : Outside) (s : Source) (tables : Tables) → GivesTables told s tables → IsQuiet before after → IsEnding told (shelves before.misses after.misses before.faults after.faults) (named_of s) NoMemory
-IsEnding-given told before after s tables gives kept = (source_there told s tables gives, kept)
-
--- and it is understood
+-- it is understood
 source_understood : (told : Option Files) (s : Source) (tables : Tables) → GivesTables told s tables → IsUnderstood told (named_of s)
 source_understood told (source.Image name) tables gives = (tables, gives)
 source_understood told (source.Listing name) tables gives = (tables, gives)
@@ -151,11 +148,17 @@ text_given told (form.Route image elcr) (source.Image name) tables status text i
 text_given told (form.Route image elcr) (source.Listing name) tables status text is gives w low h = absurd cc
 
 -- so it is due
-pub IsAnswerTo-due : (told : Option Files) (before after : Outside) (c : TablesCommand) (s : Source) (tables : Tables) (status : ℕ) (text : List ℕ) → named_of s ≡ file_of_tables c → GivesTables told s tables → IsWellFormed tables → tables.at < 2 ^ 32 → IsQuiet before after
+IsAnswerTo-due : (told : Option Files) (before after : Outside) (c : TablesCommand) (s : Source) (tables : Tables) (status : ℕ) (text : List ℕ) → named_of s ≡ file_of_tables c → GivesTables told s tables → IsWellFormed tables → tables.at < 2 ^ 32 → IsQuiet before after
     → IsAnswerTo c tables status text → IsDueOf told before after (form_of_tables c) status text
 IsAnswerTo-due told before after c s tables status text is gives low_form low kept answer =
     let understood : AllByRecursion (IsUnderstood told) (files_of (form_of_tables c)) = subst (λ (fs : List Named). AllByRecursion (IsUnderstood told) fs) (sym (one_file c (named_of s) is)) (source_understood told s tables gives, tt) in
     inl (inr (understood, text_given told c s tables status text is gives low_form low answer), ((λ three. absurd (not_absent c tables status text answer three)), kept.0, inr kept.1))
+
+-- and so is want of memory for it
+pub answer-due : (told : Option Files) (before after : Outside) (c : TablesCommand) (s : Source) (tables : Tables) (r : Result Answer NoMemoryUnit) → named_of s ≡ file_of_tables c → GivesTables told s tables → IsWellFormed tables → tables.at < 2 ^ 32 → IsQuiet before after
+    → IfOk r (λ a. IsAnswerTo c tables a.status a.text.items) → IsDueOf told before after (form_of_tables c) (answer_status r) (answer_text r)
+answer-due told before after c s tables (Ok a) is gives low_form low kept answer = IsAnswerTo-due told before after c s tables a.status a.text.items is gives low_form low kept answer
+answer-due told before after c s tables (Err e) is gives low_form low kept answer = IsEnding-due told before after c (named_of s) (name_of (named_of s)) NoMemory is refl (source_there told s tables gives, kept)
 
 -- that file is all that is asked for
 pub AsksOf-source : (told : Option Files) (c : TablesCommand) (file : Named) (before after : ℕ) → file ≡ file_of_tables c → after ≤ before + most_of told file → (n : ℕ) × (after ≤ before + n) × AsksOf told (files_of (form_of_tables c)) n
@@ -197,6 +200,19 @@ IsRefused-fault told name size at why is within inside first =
 -- and one without a floating pointer for that
 pub IsRefused-none : (told : Option Files) (name : List ℕ) (size : ℕ) → IsSizeTold told name (Some size) → size ≤ limit_of (Image name) → IfTold told name HasNoPointer → IsRefused told (Image name) 6 no_pointer_line
 IsRefused-none told name size is within none = inl (refl, IsRead-told told (Image name) size HasNoPointer is within none, refl)
+
+-- of an image within its limit no more is asked for than what the windows may take
+pub asks-image-most : (told : Option Files) (name : List ℕ) (size before after : ℕ) → IsSizeTold told name (Some size) → size ≤ limit_of (Image name) → after ≤ before + most_asked (Image name) size → after ≤ before + most_of told (Image name)
+asks-image-most None name size before after is within asks = asks
+asks-image-most (Some files) name size before after is within asks = of_held (files name) is
+  where
+    of_held : (o : Option (List ℕ)) → Some size ≡ option_map length o → after ≤ before + most_of_held o (Image name)
+    of_held None e = absurd cc
+    of_held (Some bytes) e = by_test (nat_lt (limit_of (Image name)) (length bytes)) refl
+      where
+        by_test : (t : Bool) → nat_lt (limit_of (Image name)) (length bytes) ≡ t → after ≤ before + (if t then 0 else most_asked (Image name) (length bytes))
+        by_test true is-large = let same : size ≡ length bytes = cc in let large : limit_of (Image name) < length bytes = ltb-true (limit_of (Image name)) (length bytes) is-large in absurd (omega (arith, same, large, within))
+        by_test false is-small = asks
 
 -- where the files are told, what holds of the bytes that were read holds of the file
 pub IsRead-bytes : (told : Option Files) (file : Named) (size : ℕ) (bytes : List ℕ) (P : List ℕ → Type 0) → IsSizeTold told (name_of file) (Some size) → size ≤ limit_of file → IfTold told (name_of file) (λ held. held ≡ bytes) → P bytes → IsRead told file P

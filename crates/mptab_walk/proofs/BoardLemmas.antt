@@ -39,7 +39,7 @@ use Rattle.mptab_walk.specs.Boards.{IsDescribed, IsBoardGiven, IsBoardEnding, Ha
 use Rattle.mptab_walk.specs.Forms.{Form, Trace, Boot, Replay, Pic, Named, Image, Script, files_of, name_of, limit_of, IsRead}
 use Rattle.mptab_walk.specs.Commands.{ImageGives, ScriptGives, WithBoard, IsUnderstood, IsRefused, IsText, IsGivenBoard, ReportGives, IsJudged, verdict_status, CallsGive}
 use Rattle.mptab_walk.specs.Walk.{Outside, IsQuiet, IsDueOf, AsksOf, Reaches, IsFirstRead, most_of}
-use Rattle.mptab_walk.specs.Ending.{ending_status, ending_text, IsEnding, IsUndisturbed, Shelves, shelves}
+use Rattle.mptab_walk.specs.Ending.{ending_status, ending_text, answer_status, answer_text, IsEnding, IsUndisturbed, Shelves, shelves}
 use Rattle.mptab_walk.specs.Limited.{IsHeldWithin, IsRefusedBy}
 use Rattle.mptab_walk.proofs.AnswerLemmas.{ending_at, read_there}
 use Rattle.mptab_walk.proofs.LimitedLemmas.{held-read, refused_by}
@@ -154,6 +154,12 @@ module _ (told : Option Files) (form : Form) (image script : List ℕ) (third : 
   pub third-due : (before after : Outside) (status : ℕ) (text : List ℕ) → IsQuiet before after → IsUnderstood told third → ¬ (status ≡ 3) → IsText told form status text → IsDueOf told before after form status text
   third-due before after status text kept understood not-absent is =
       inl (inr (subst (λ fs. AllByRecursion (IsUnderstood told) fs) (sym files-are) ((tables, given.gives), (script-understood, (understood, tt))), is), ((λ three. absurd (not-absent three)), kept.0, inr kept.1))
+
+  -- what it is answered there, or want of memory
+  pub third-answer : (before after : Outside) (r : Result Answer NoMemoryUnit) (P : ℕ → List ℕ → Type 0) → IsQuiet before after → IsUnderstood told third → ((status : ℕ) (text : List ℕ) → P status text → (¬ (status ≡ 3)) × IsText told form status text) → IfOk r (λ a. P a.status a.text.items)
+      → IsDueOf told before after form (answer_status r) (answer_text r)
+  third-answer before after (Ok a) P kept is given h = let both = given a.status a.text.items h in third-due before after a.status a.text.items kept is both.0 both.1
+  third-answer before after (Err e) P kept is given h = third-unmade before after kept
 
   -- what is asked for
   pub asks-third : (before between after : ℕ) → between ≤ before + (most_of told (Image image) + most_of told (Script image script)) → after ≤ between + most_of told third → (n : ℕ) × (after ≤ before + n) × AsksOf told (files_of form) n

@@ -81,9 +81,10 @@ fn canonical(alloc: Global, tables: Tables) -> Result<Answer, NoMemory>
     ensures { IfOk result (λ answer. IsMadeCanonical tables answer.status answer.text.items) }
 {
     if fits(&tables) {
-        let canonical = canon(alloc, tables)?;
-        let text = write_image(alloc, &canonical)?;
-        Ok(Answer { status: DONE, text })
+        match canon(alloc, tables) {
+            Ok(canonical) => built(alloc, &canonical),
+            Err(error) => Err(error),
+        }
     } else {
         unfit(alloc, block_bytes(&tables))
     }
@@ -97,8 +98,7 @@ fn raised(alloc: Global, tables: Tables) -> Result<Answer, NoMemory>
     if fits(&tables) {
         let mut raised = tables;
         raise(&mut raised);
-        let text = write_image(alloc, &raised)?;
-        Ok(Answer { status: DONE, text })
+        built(alloc, &raised)
     } else {
         unfit(alloc, block_bytes(&tables))
     }

@@ -10,8 +10,7 @@ ghost use Rattle.mptab_walk.specs.Commands.{ImageGives, IsMadtCompared, status_o
 ghost use Rattle.mptab_walk.specs.Walk.{IsDueOf, IsDelivered, AsksOf, most_of, outside_of};
 
 use crate::answer::Answer;
-use crate::delivery::deliver_text;
-use crate::ending::{Ending, refuse};
+use crate::ending::{deliver_answer, refuse};
 use crate::firmware::take_madt;
 use crate::image::take_image;
 use crate::status::{DONE, FINDINGS};
@@ -93,10 +92,7 @@ fn give_of_madt<S: Shelf, O: Sink>(
     ensures asks { S.asked shelf.new ≤ S.asked shelf.old + most_of (S.files shelf.old) (AcpiTable files.entry.madt.now) }
 {
     match take_madt(alloc, files.madt, shelf) {
-        Ok(madt) => match compared(alloc, tables, files.elcr, &madt) {
-            Ok(answer) => deliver_text(out, answer.status, answer.text.as_slice()),
-            Err(NoMemory) => refuse(files.madt, Ending::NoMemory, out),
-        },
+        Ok(madt) => deliver_answer(compared(alloc, tables, files.elcr, &madt), out),
         Err(ending) => refuse(files.madt, ending, out),
     }
 }

@@ -10,8 +10,7 @@ ghost use Rattle.mptab_walk.specs.Commands.{ImageGives, IsPirCompared, status_of
 ghost use Rattle.mptab_walk.specs.Walk.{IsDueOf, IsDelivered, AsksOf, most_of, outside_of};
 
 use crate::answer::Answer;
-use crate::delivery::deliver_text;
-use crate::ending::{Ending, refuse};
+use crate::ending::{deliver_answer, refuse};
 use crate::firmware::take_pir;
 use crate::image::take_image;
 use crate::status::{DONE, FINDINGS};
@@ -68,10 +67,7 @@ fn give_of_pir<S: Shelf, O: Sink>(
     ensures asks { S.asked shelf.new ≤ S.asked shelf.old + most_of (S.files shelf.old) (RoutingTable files.entry.table.now) }
 {
     match take_pir(alloc, files.table, shelf) {
-        Ok(pir) => match compared(alloc, tables, &pir) {
-            Ok(answer) => deliver_text(out, answer.status, answer.text.as_slice()),
-            Err(NoMemory) => refuse(files.table, Ending::NoMemory, out),
-        },
+        Ok(pir) => deliver_answer(compared(alloc, tables, &pir), out),
         Err(ending) => refuse(files.table, ending, out),
     }
 }
