@@ -1,9 +1,12 @@
--- The tables of firmware that are made of a platform, or why there is none.
-use Rattle.std.proofs.Common.{◌≡◌, ℕ, ◌≤◌, ◌<◌, List, length, Result, Ok, Err, IfOk, refl, subst, inl, inr}
-use Rattle.std.specs.Prelude.{nat_lt, Bool, true, false}
+-- The images that are made of tables, and the tables of firmware that are made of a platform, or why there is none.
+use Rattle.std.proofs.Common.{◌≡◌, ℕ, ◌≤◌, ◌<◌, List, length, ◌⊎◌, Result, Ok, Err, IfOk, refl, ap, subst, ◌∙◌, inl, inr}
+use Rattle.std.specs.Prelude.{nat_lt, Bool, true, false, IsTrue, ◌↔◌}
 use Rattle.std.proofs.lemmas.Bool.{ltb-true, ltb-false}
 use Rattle.mpt_base.specs.Bytes.{IsByteList}
 use Rattle.mpt_base.specs.declared.outside.NoMemory.{NoMemory}
+use Rattle.mpt_spec.specs.declared.tables.Tables.{Tables}
+use Rattle.mpt_spec.specs.Canonical.{FitsInImage, block_size}
+use Rattle.mpt_spec.specs.Image.{image_of}
 use Rattle.mpt_route.specs.declared.platform.Platform.{Platform}
 use Rattle.mpt_route.specs.declared.route.Answer.{Answer as ARoute}
 use Rattle.mpf_madt.specs.declared.madt.Madt.{Madt}
@@ -17,7 +20,20 @@ use Rattle.mpf_pir.specs.Made.{pir_of, IsMakeFault}
 use Rattle.mpf_pir.specs.Answers.{IfMakeFault}
 use Rattle.mpf_answers.specs.FaultLines.{make_fault_line}
 use Rattle.mptab_walk.specs.declared.answer.Answer.{Answer}
+use Rattle.mptab_walk.specs.Commands.{IsBuilt, unfit_line}
 use Rattle.mptab_walk.specs.Made.{IsMadtOf, IsPirOf}
+
+-- where tables fit, an image is made of them
+pub fits-given : (Q : ℕ → List ℕ → Type 0) (r : Result Answer NoMemory) (fits : Bool) (tables made form : Tables) → (IsTrue fits ↔ FitsInImage tables) → fits ≡ true → made ≡ form → IfOk r (λ a. IsBuilt made a.status a.text.items)
+    → IfOk r (λ a. ((a.status ≡ 0) × FitsInImage tables × (a.text.items ≡ image_of form)) ⊎ Q a.status a.text.items)
+fits-given Q (Ok a) fits tables made form is true-is same h = inl (h.0, is.0 true-is, h.1 ∙ ap image_of same)
+fits-given Q (Err e) fits tables made form is true-is same h = tt
+
+-- where they don't, there is none
+pub unfit-given : (Q : ℕ → List ℕ → Type 0) (r : Result Answer NoMemory) (fits : Bool) (tables : Tables) (size : ℕ) → (IsTrue fits ↔ FitsInImage tables) → fits ≡ false → size ≡ block_size tables.body → IfOk r (λ a. (a.status ≡ 8) × (a.text.items ≡ unfit_line size))
+    → IfOk r (λ a. Q a.status a.text.items ⊎ ((a.status ≡ 8) × (¬ FitsInImage tables) × (a.text.items ≡ unfit_line (block_size tables.body))))
+unfit-given Q (Ok a) fits tables size is false-is same h = inr (h.0, (λ fit. let true-is : fits ≡ true = is.1 fit in cc), h.1 ∙ ap unfit_line same)
+unfit-given Q (Err e) fits tables size is false-is same h = tt
 
 -- the MADT is written
 pub madt-written : (r : Result Answer NoMemory) (p : Platform) (answers : List ARoute) (m : Madt) → length p.processors ≤ 255 → m ≡ madt_of p answers → IfOk r (λ a. (a.status ≡ 0) × IsByteList a.text.items × IsMadt m a.text.items)
