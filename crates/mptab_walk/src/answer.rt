@@ -60,8 +60,10 @@ pub(crate) fn answer_to(
 fn shown(alloc: Global, tables: &Tables) -> Result<Answer, NoMemory>
     ensures { IfOk result (λ answer. IsShown tables.now answer.status answer.text.items) }
 {
-    let text = print(alloc, tables)?;
-    Ok(Answer { status: DONE, text })
+    match print(alloc, tables) {
+        Ok(text) => Ok(Answer { status: DONE, text }),
+        Err(error) => Err(error),
+    }
 }
 
 // the findings, and 1 where there is one
@@ -69,10 +71,16 @@ fn audited(alloc: Global, tables: &Tables) -> Result<Answer, NoMemory>
     requires { IsWellFormed tables.now }
     ensures { IfOk result (λ answer. IsAudited tables.now answer.status answer.text.items) }
 {
-    let findings = audit(alloc, tables)?;
-    let text = print_findings(alloc, findings.as_slice())?;
-    let status = if findings.is_empty() { DONE } else { FINDINGS };
-    Ok(Answer { status, text })
+    let Ok(findings) = audit(alloc, tables) else {
+        return Err(NoMemory);
+    };
+    match print_findings(alloc, findings.as_slice()) {
+        Ok(text) => {
+            let status = if findings.is_empty() { DONE } else { FINDINGS };
+            Ok(Answer { status, text })
+        }
+        Err(error) => Err(error),
+    }
 }
 
 // the image of the canonical form, or how many bytes don't fit
@@ -109,8 +117,10 @@ fn built(alloc: Global, tables: &Tables) -> Result<Answer, NoMemory>
     requires { FitsInImage tables.now }
     ensures { IfOk result (λ answer. IsBuilt tables.now answer.status answer.text.items) }
 {
-    let text = write_image(alloc, tables)?;
-    Ok(Answer { status: DONE, text })
+    match write_image(alloc, tables) {
+        Ok(text) => Ok(Answer { status: DONE, text }),
+        Err(error) => Err(error),
+    }
 }
 
 // the routes

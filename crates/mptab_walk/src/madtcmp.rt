@@ -59,13 +59,17 @@ fn compared(alloc: Global, tables: &Tables, elcr: u16, madt: &Madt) -> Result<An
     requires { IsWellFormed tables.now }
     ensures { IfOk result (λ answer. IsMadtCompared elcr tables.now madt.now answer.status answer.text.items) }
 {
-    let found = found_in(alloc, tables, elcr, madt)?;
+    let Ok(found) = found_in(alloc, tables, elcr, madt) else {
+        return Err(NoMemory);
+    };
     let differences = found.as_slice();
-    let text = print_line_differences(alloc, differences)?;
-    Ok(Answer {
-        status: status_of(differences),
-        text,
-    })
+    match print_line_differences(alloc, differences) {
+        Ok(text) => Ok(Answer {
+            status: status_of(differences),
+            text,
+        }),
+        Err(error) => Err(error),
+    }
 }
 
 fn status_of(found: &[LineDifference]) -> u8

@@ -38,10 +38,16 @@ fn judged(alloc: Global, config: Config, report: &Report) -> Result<Answer, NoMe
     requires few { length report.now.entries < 2 ^ 32 }
     ensures { IfOk result (λ answer. IsJudged config report.now answer.status answer.text.items) }
 {
-    let verdict = replay(alloc, config, report)?;
-    let text = verdict_line(alloc, verdict)?;
-    let status = status_of(verdict);
-    Ok(Answer { status, text })
+    let Ok(verdict) = replay(alloc, config, report) else {
+        return Err(NoMemory);
+    };
+    match verdict_line(alloc, verdict) {
+        Ok(text) => Ok(Answer {
+            status: status_of(verdict),
+            text,
+        }),
+        Err(error) => Err(error),
+    }
 }
 
 // takes the report, and delivers the verdict on it
