@@ -8,11 +8,8 @@ use Rattle.mpt_spec.specs.declared.tables.Tables.{Tables}
 use Rattle.mpt_spec.specs.Table.{Describes}
 use Rattle.mpt_spec.specs.Search.{HasNoPointer}
 use Rattle.mpt_spec.specs.Faults.{IsFirstFault}
-use Rattle.mpt_spec.specs.Canonical.{IsWellFormed, FitsInImage, block_size}
-use Rattle.mpt_parse.specs.declared.fault.LineWhy.{LineWhy}
-use Rattle.mpt_parse.specs.Listings.{IsListing, IsListingOf, IsFirstBadLine}
-use Rattle.mpb_report_line.specs.declared.report.Report.{Report as AReport}
-use Rattle.mpb_report_parse.specs.Reports.{IsReport, IsReportOf}
+use Rattle.mpt_spec.specs.Canonical.{IsWellFormed}
+use Rattle.mpt_parse.specs.Listings.{IsListingOf}
 use Rattle.mpt_rules.specs.declared.rule.Finding.{Finding}
 use Rattle.mpt_table.proofs.ToldLemmas.{IfTold-map}
 use Rattle.mpt_base.specs.declared.fault.Reason.{Reason}
@@ -27,7 +24,7 @@ use Rattle.mptab_walk.specs.declared.words.StillCommand.TheVariants as still
 use Rattle.mptab_walk.specs.declared.words.TablesCommand.{TablesCommand}
 use Rattle.mptab_walk.specs.declared.words.TablesCommand.TheVariants as form
 use Rattle.mptab_walk.specs.Forms.{Form, Show, Audit, Canon, Raise, Madt, Pirmake, Build, Route, Trace, Boot, Drill, Replay, Madtcmp, Pircmp, Pic, IsForm, IsInRange, form_of_still, Named, Image, Listing, Script, Report, AcpiTable, RoutingTable, Calls, files_of, form_of_tables, file_of_tables, name_of, limit_of, most_asked, named_of, IsRead}
-use Rattle.mptab_walk.specs.Commands.{status_of, ImageGives, ListingGives, GivesTables, IsUnderstood, IsRefused, IsText, IsAnswerTo, IsReadyFor, IsDrillDue, no_pointer_line, fault_line, bad_line_line, unfit_line, ReportGives, bad_report_line}
+use Rattle.mptab_walk.specs.Commands.{status_of, ImageGives, ListingGives, GivesTables, IsUnderstood, IsRefused, IsText, IsAnswerTo, IsReadyFor, IsDrillDue, no_pointer_line, fault_line}
 use Rattle.mptab_walk.specs.Walk.{Outside, IsQuiet, IsDueOf, AsksOf, Reaches, IsFirstRead, most_of, most_of_held}
 use Rattle.mptab_walk.specs.Ending.{ending_status, ending_text, answer_status, answer_text, IsEnding, IsUndisturbed, Shelves, shelves}
 use Rattle.mptab_walk.specs.declared.answer.Answer.{Answer}

@@ -1,15 +1,13 @@
 -- What the walk over an image and a script meets is what is due to the form.
-use Rattle.std.proofs.Common.{◌≡◌, ℕ, ◌+◌, ◌≤◌, ◌<◌, ◌^◌, ◌⊎◌, List, [], ◌∷◌, Option, Some, None, Result, Ok, Err, IfOk, IfErr, refl, sym, subst, ◌∙◌, inl, inr, arith}
+use Rattle.std.proofs.Common.{◌≡◌, ℕ, ◌+◌, ◌≤◌, ◌⊎◌, List, [], ◌∷◌, Option, Some, None, Result, Ok, Err, IfOk, IfErr, refl, sym, subst, ◌∙◌, inl, inr, arith}
 use Rattle.std.specs.List.{AllByRecursion}
-use Rattle.mpt_base.specs.Outside.{Files, IsSizeTold, Rose}
-use Rattle.mpt_table.specs.Windows.{IfTold}
+use Rattle.mpt_base.specs.Outside.{Files, Rose}
 use Rattle.mpt_spec.specs.declared.tables.Tables.{Tables}
 use Rattle.mpt_spec.specs.Table.{Describes}
 use Rattle.mpt_spec.specs.Canonical.{IsWellFormed}
 use Rattle.mpb_spec.specs.declared.fault.BoardError.{BoardError}
 use Rattle.mpb_spec.specs.Plan.{Plan}
 use Rattle.mpb_spec.specs.declared.fault.BoardError.TheVariants as board_fault
-use Rattle.mpb_spec.specs.Plan.{plan_size}
 use Rattle.mpb_spec.specs.Configs.{IsStartableAt}
 use Rattle.mpt_route.specs.declared.platform.Platform.{Platform}
 use Rattle.mpt_route.specs.Platform.{platform_of}
@@ -21,7 +19,7 @@ use Rattle.mpb_script.specs.declared.script.ScriptFault.{ScriptFault}
 use Rattle.mpb_script.specs.declared.script.ScriptFault.TheVariants as script_fault
 use Rattle.mpb_script.specs.Script.{IsScriptOf, HasFault}
 use Rattle.mpb_script.specs.Values.{HasScriptValues}
-use Rattle.mpb_boards.specs.Boot.{board_of, fault_of, IsBootOf, IsTraceOf}
+use Rattle.mpb_boards.specs.Boot.{IsBootOf, IsTraceOf}
 use Rattle.mpb_boards.specs.Lines.{script_fault_line, board_fault_line, IsScriptFault, IsBoardFault}
 use Rattle.mpt_base.specs.declared.outside.NoMemory.{NoMemory as NoMemoryUnit}
 use Rattle.mpb_report_line.specs.declared.report.Report.{Report as AReport}
@@ -37,7 +35,7 @@ use Rattle.mptab_walk.specs.declared.board.BoardEnding.TheVariants.{AtImage, AtS
 use Rattle.mptab_walk.specs.Texts.{no_memory_line}
 use Rattle.mptab_walk.specs.Boards.{IsDescribed, IsBoardGiven, IsBoardEnding, HasAskedForEnd, board_ending_status, board_ending_text, IsBoardIn, RefusesScript}
 use Rattle.mptab_walk.specs.Forms.{Form, Trace, Boot, Replay, Pic, Named, Image, Script, files_of, name_of, limit_of, IsRead}
-use Rattle.mptab_walk.specs.Commands.{ImageGives, ScriptGives, WithBoard, IsUnderstood, IsRefused, IsText, IsGivenBoard, ReportGives, IsJudged, verdict_status, CallsGive}
+use Rattle.mptab_walk.specs.Commands.{ImageGives, WithBoard, IsUnderstood, IsRefused, IsText, IsGivenBoard, ReportGives, IsJudged, verdict_status, CallsGive}
 use Rattle.mptab_walk.specs.Walk.{Outside, IsQuiet, IsDueOf, AsksOf, Reaches, IsFirstRead, most_of}
 use Rattle.mptab_walk.specs.Ending.{ending_status, ending_text, answer_status, answer_text, IsEnding, IsUndisturbed, Shelves, shelves}
 use Rattle.mptab_walk.specs.Limited.{IsHeldWithin, IsRefusedBy}

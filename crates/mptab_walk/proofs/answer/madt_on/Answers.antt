@@ -1,4 +1,4 @@
-use Rattle.std.proofs.Common.{◌∙◌, length, sym, subst, IfOk, List}
+use Rattle.std.proofs.Common.{◌∙◌, length, subst, IfOk, List}
 use Rattle.mpt_route.specs.declared.route.Answer.{Answer}
 use Rattle.mpf_madt.specs.declared.translation.TranslateFault.TheVariants as fault
 use Rattle.mptab_walk.specs.Made.{IsMadtOf}

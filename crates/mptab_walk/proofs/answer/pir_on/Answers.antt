@@ -1,7 +1,3 @@
-use Rattle.std.proofs.Common.{subst, Result}
-use Rattle.mpf_pir.specs.declared.making.MakeFault.{MakeFault}
-use Rattle.mpf_pir.specs.declared.table.Pir.{Pir}
-use Rattle.mpf_pir.specs.Answers.{AnswersMakeFault}
 use Rattle.mptab_walk.proofs.MadeLemmas.{pir-written, pir-unmade}
 use Rattle.mptab_walk.proofs.answer.pir_on.Goals as goal
 

@@ -1,4 +1,4 @@
-use Rattle.std.proofs.Common.{◌≡◌, ◌∙◌, ℕ, Option, IfOk, IfErr, subst, arith}
+use Rattle.std.proofs.Common.{◌∙◌, ℕ, Option, IfOk, IfErr, subst, arith}
 use Rattle.mpt_base.specs.Outside.{Files}
 use Rattle.mptab_walk.specs.Forms.{Image}
 use Rattle.mptab_walk.specs.Commands.{ImageGives}

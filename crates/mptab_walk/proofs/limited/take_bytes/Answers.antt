@@ -1,4 +1,4 @@
-use Rattle.std.proofs.Common.{◌≡◌, ◌∙◌, ℕ, IfOk, subst, arith}
+use Rattle.std.proofs.Common.{◌∙◌, ℕ, IfOk, subst, arith}
 use Rattle.mptab_walk.specs.Ending.{IsUndisturbed, shelves, shelves_of}
 use Rattle.mptab_walk.proofs.LimitedLemmas.{absent-at, large-at, unread-at, asks-within, held-within}
 use Rattle.mptab_walk.proofs.limited.take_bytes.Goals as goal
