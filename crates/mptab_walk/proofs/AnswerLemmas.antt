@@ -1,17 +1,15 @@
 -- What the walk meets at a file is what is due to the form.
 use Rattle.std.proofs.Common.{◌≡◌, ℕ, ◌+◌, ◌≤◌, ◌<◌, ◌^◌, List, [], ◌∷◌, length, map, get_or, Option, Some, None, IfSome, IsSomeAnd, Result, Ok, Err, IfOk, IfErr, refl, sym, ap, subst, ◌∙◌, inl, inr, arith}
-use Rattle.std.specs.Prelude.{option_map}
+use Rattle.std.specs.Prelude.{option_map, nat_lt, if◌then◌else◌, Bool, true, false}
 use Rattle.std.proofs.lemmas.List.{length-map}
+use Rattle.std.proofs.lemmas.Bool.{ltb-true}
 use Rattle.mpt_base.specs.Outside.{Files, IsSizeTold}
 use Rattle.mpt_spec.specs.declared.tables.Tables.{Tables}
 use Rattle.mpt_spec.specs.Table.{Describes}
 use Rattle.mpt_spec.specs.Search.{HasNoPointer}
 use Rattle.mpt_spec.specs.Faults.{IsFirstFault}
-use Rattle.mpt_spec.specs.Canonical.{IsWellFormed, FitsInImage, block_size}
-use Rattle.mpt_parse.specs.declared.fault.LineWhy.{LineWhy}
-use Rattle.mpt_parse.specs.Listings.{IsListing, IsListingOf, IsFirstBadLine}
-use Rattle.mpb_report_line.specs.declared.report.Report.{Report as AReport}
-use Rattle.mpb_report_parse.specs.Reports.{IsReport, IsReportOf}
+use Rattle.mpt_spec.specs.Canonical.{IsWellFormed}
+use Rattle.mpt_parse.specs.Listings.{IsListingOf}
 use Rattle.mpt_rules.specs.declared.rule.Finding.{Finding}
 use Rattle.mpt_table.proofs.ToldLemmas.{IfTold-map}
 use Rattle.mpt_base.specs.declared.fault.Reason.{Reason}
@@ -25,10 +23,10 @@ use Rattle.mptab_walk.specs.declared.words.StillCommand.{StillCommand}
 use Rattle.mptab_walk.specs.declared.words.StillCommand.TheVariants as still
 use Rattle.mptab_walk.specs.declared.words.TablesCommand.{TablesCommand}
 use Rattle.mptab_walk.specs.declared.words.TablesCommand.TheVariants as form
-use Rattle.mptab_walk.specs.Forms.{Form, Show, Audit, Canon, Raise, Madt, Pirmake, Build, Route, Trace, Boot, Drill, Replay, Madtcmp, Pircmp, Pic, IsForm, IsInRange, form_of_still, Named, Image, Listing, Script, Report, AcpiTable, RoutingTable, Calls, files_of, form_of_tables, file_of_tables, name_of, limit_of, named_of, IsRead}
-use Rattle.mptab_walk.specs.Commands.{status_of, ImageGives, ListingGives, GivesTables, IsUnderstood, IsRefused, IsText, IsAnswerTo, IsReadyFor, IsDrillDue, no_pointer_line, fault_line, bad_line_line, unfit_line, ReportGives, bad_report_line}
-use Rattle.mptab_walk.specs.Walk.{Outside, IsQuiet, IsDueOf, AsksOf, Reaches, IsFirstRead, most_of}
-use Rattle.mptab_walk.specs.Ending.{ending_status, ending_text, IsEnding, IsUndisturbed, Shelves, shelves}
+use Rattle.mptab_walk.specs.Forms.{Form, Show, Audit, Canon, Raise, Madt, Pirmake, Build, Route, Trace, Boot, Drill, Replay, Madtcmp, Pircmp, Pic, IsForm, IsInRange, form_of_still, Named, Image, Listing, Script, Report, AcpiTable, RoutingTable, Calls, files_of, form_of_tables, file_of_tables, name_of, limit_of, most_asked, named_of, IsRead}
+use Rattle.mptab_walk.specs.Commands.{status_of, ImageGives, ListingGives, GivesTables, IsUnderstood, IsRefused, IsText, IsAnswerTo, IsReadyFor, IsDrillDue, no_pointer_line, fault_line}
+use Rattle.mptab_walk.specs.Walk.{Outside, IsQuiet, IsDueOf, AsksOf, Reaches, IsFirstRead, most_of, most_of_held}
+use Rattle.mptab_walk.specs.Ending.{ending_status, ending_text, answer_status, answer_text, IsEnding, IsUndisturbed, Shelves, shelves}
 use Rattle.mptab_walk.specs.declared.answer.Answer.{Answer}
 use Rattle.mpt_base.specs.declared.outside.NoMemory.{NoMemory as NoMemoryUnit}
 
@@ -90,11 +88,7 @@ source_there None s tables gives = tt
 source_there (Some files) (source.Image name) tables gives = read_there files (Image name.now) (λ image. Describes image tables) gives
 source_there (Some files) (source.Listing name) tables gives = read_there files (Listing name.now) (IsListingOf tables) gives.1
 
--- where memory is wanting behind it, that is due
-pub IsEnding-given : (told : Option Files) (before after : Outside) (s : Source) (tables : Tables) → GivesTables told s tables → IsQuiet before after → IsEnding told (shelves before.misses after.misses before.faults after.faults) (named_of s) NoMemory
-IsEnding-given told before after s tables gives kept = (source_there told s tables gives, kept)
-
--- and it is understood
+-- it is understood
 source_understood : (told : Option Files) (s : Source) (tables : Tables) → GivesTables told s tables → IsUnderstood told (named_of s)
 source_understood told (source.Image name) tables gives = (tables, gives)
 source_understood told (source.Listing name) tables gives = (tables, gives)
@@ -151,11 +145,17 @@ text_given told (form.Route image elcr) (source.Image name) tables status text i
 text_given told (form.Route image elcr) (source.Listing name) tables status text is gives w low h = absurd cc
 
 -- so it is due
-pub IsAnswerTo-due : (told : Option Files) (before after : Outside) (c : TablesCommand) (s : Source) (tables : Tables) (status : ℕ) (text : List ℕ) → named_of s ≡ file_of_tables c → GivesTables told s tables → IsWellFormed tables → tables.at < 2 ^ 32 → IsQuiet before after
+IsAnswerTo-due : (told : Option Files) (before after : Outside) (c : TablesCommand) (s : Source) (tables : Tables) (status : ℕ) (text : List ℕ) → named_of s ≡ file_of_tables c → GivesTables told s tables → IsWellFormed tables → tables.at < 2 ^ 32 → IsQuiet before after
     → IsAnswerTo c tables status text → IsDueOf told before after (form_of_tables c) status text
 IsAnswerTo-due told before after c s tables status text is gives low_form low kept answer =
     let understood : AllByRecursion (IsUnderstood told) (files_of (form_of_tables c)) = subst (λ (fs : List Named). AllByRecursion (IsUnderstood told) fs) (sym (one_file c (named_of s) is)) (source_understood told s tables gives, tt) in
     inl (inr (understood, text_given told c s tables status text is gives low_form low answer), ((λ three. absurd (not_absent c tables status text answer three)), kept.0, inr kept.1))
+
+-- and so is want of memory for it
+pub answer-due : (told : Option Files) (before after : Outside) (c : TablesCommand) (s : Source) (tables : Tables) (r : Result Answer NoMemoryUnit) → named_of s ≡ file_of_tables c → GivesTables told s tables → IsWellFormed tables → tables.at < 2 ^ 32 → IsQuiet before after
+    → IfOk r (λ a. IsAnswerTo c tables a.status a.text.items) → IsDueOf told before after (form_of_tables c) (answer_status r) (answer_text r)
+answer-due told before after c s tables (Ok a) is gives low_form low kept answer = IsAnswerTo-due told before after c s tables a.status a.text.items is gives low_form low kept answer
+answer-due told before after c s tables (Err e) is gives low_form low kept answer = IsEnding-due told before after c (named_of s) (name_of (named_of s)) NoMemory is refl (source_there told s tables gives, kept)
 
 -- that file is all that is asked for
 pub AsksOf-source : (told : Option Files) (c : TablesCommand) (file : Named) (before after : ℕ) → file ≡ file_of_tables c → after ≤ before + most_of told file → (n : ℕ) × (after ≤ before + n) × AsksOf told (files_of (form_of_tables c)) n
@@ -198,35 +198,23 @@ IsRefused-fault told name size at why is within inside first =
 pub IsRefused-none : (told : Option Files) (name : List ℕ) (size : ℕ) → IsSizeTold told name (Some size) → size ≤ limit_of (Image name) → IfTold told name HasNoPointer → IsRefused told (Image name) 6 no_pointer_line
 IsRefused-none told name size is within none = inl (refl, IsRead-told told (Image name) size HasNoPointer is within none, refl)
 
--- ---- a listing
+-- of an image within its limit no more is asked for than what the windows may take
+pub asks-image-most : (told : Option Files) (name : List ℕ) (size before after : ℕ) → IsSizeTold told name (Some size) → size ≤ limit_of (Image name) → after ≤ before + most_asked (Image name) size → after ≤ before + most_of told (Image name)
+asks-image-most None name size before after is within asks = asks
+asks-image-most (Some files) name size before after is within asks = of_held (files name) is
+  where
+    of_held : (o : Option (List ℕ)) → Some size ≡ option_map length o → after ≤ before + most_of_held o (Image name)
+    of_held None e = absurd cc
+    of_held (Some bytes) e = by_test (nat_lt (limit_of (Image name)) (length bytes)) refl
+      where
+        by_test : (t : Bool) → nat_lt (limit_of (Image name)) (length bytes) ≡ t → after ≤ before + (if t then 0 else most_asked (Image name) (length bytes))
+        by_test true is-large = let same : size ≡ length bytes = cc in let large : limit_of (Image name) < length bytes = ltb-true (limit_of (Image name)) (length bytes) is-large in absurd (omega (arith, same, large, within))
+        by_test false is-small = asks
 
 -- where the files are told, what holds of the bytes that were read holds of the file
 pub IsRead-bytes : (told : Option Files) (file : Named) (size : ℕ) (bytes : List ℕ) (P : List ℕ → Type 0) → IsSizeTold told (name_of file) (Some size) → size ≤ limit_of file → IfTold told (name_of file) (λ held. held ≡ bytes) → P bytes → IsRead told file P
 IsRead-bytes told file size bytes P is within same p =
     IsRead-told told file size P is within (IfTold-map told (name_of file) (λ held. held ≡ bytes) P (λ held e. subst P (sym e) p) same)
-
--- the tables of a listing that was read
-pub ListingGives-read : (told : Option Files) (name : List ℕ) (size : ℕ) (bytes : List ℕ) (tables : Tables) → IsSizeTold told name (Some size) → size ≤ limit_of (Listing name) → IfTold told name (λ held. held ≡ bytes) → FitsInImage tables → IsListingOf tables bytes → ListingGives told name tables
-ListingGives-read told name size bytes tables is within same fit lists = (fit, IsRead-bytes told (Listing name) size bytes (IsListingOf tables) is within same lists)
-
--- a listing is refused for the reason that its reader gives
-pub IsRefused-line : (told : Option Files) (name : List ℕ) (size n : ℕ) (bytes : List ℕ) (why : LineWhy) → IsSizeTold told name (Some size) → size ≤ limit_of (Listing name) → IfTold told name (λ held. held ≡ bytes) → IsFirstBadLine IsListing bytes n why → IsRefused told (Listing name) 8 (bad_line_line n why)
-IsRefused-line told name size n bytes why is within same bad = inl (refl, n, why, IsRead-bytes told (Listing name) size bytes (λ listing. IsFirstBadLine IsListing listing n why) is within same bad, refl)
-
-pub IsRefused-unfit : (told : Option Files) (name : List ℕ) (size n : ℕ) (bytes : List ℕ) → IsSizeTold told name (Some size) → size ≤ limit_of (Listing name) → IfTold told name (λ held. held ≡ bytes)
-    → (tables : Tables) × IsListingOf tables bytes × (¬ FitsInImage tables) × (n ≡ block_size tables.body) → IsRefused told (Listing name) 8 (unfit_line n)
-IsRefused-unfit told name size n bytes is within same (tables, lists, not, sum) =
-    inr (refl, tables, IsRead-bytes told (Listing name) size bytes (IsListingOf tables) is within same lists, not, ap unfit_line sum)
-
--- ---- a report
-
--- what a report says that was read
-pub ReportGives-read : (told : Option Files) (name : List ℕ) (size : ℕ) (bytes : List ℕ) (r : AReport) → IsSizeTold told name (Some size) → size ≤ limit_of (Report name) → IfTold told name (λ held. held ≡ bytes) → IsReportOf r bytes → ReportGives told name r
-ReportGives-read told name size bytes r is within same reads = IsRead-bytes told (Report name) size bytes (λ text. IsReportOf r text) is within same reads
-
--- a report is refused for its first bad line
-pub IsRefused-report : (told : Option Files) (name : List ℕ) (size n : ℕ) (bytes : List ℕ) (why : LineWhy) → IsSizeTold told name (Some size) → size ≤ limit_of (Report name) → IfTold told name (λ held. held ≡ bytes) → IsFirstBadLine IsReport bytes n why → IsRefused told (Report name) 8 (bad_report_line n why)
-IsRefused-report told name size n bytes why is within same bad = (refl, n, why, IsRead-bytes told (Report name) size bytes (λ report. IsFirstBadLine IsReport report n why) is within same bad, refl)
 
 -- ---- a drill
 

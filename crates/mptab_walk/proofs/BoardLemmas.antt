@@ -1,15 +1,13 @@
 -- What the walk over an image and a script meets is what is due to the form.
-use Rattle.std.proofs.Common.{◌≡◌, ℕ, ◌+◌, ◌≤◌, ◌<◌, ◌^◌, ◌⊎◌, List, [], ◌∷◌, Option, Some, None, Result, Ok, Err, IfOk, IfErr, refl, sym, subst, ◌∙◌, inl, inr, arith}
+use Rattle.std.proofs.Common.{◌≡◌, ℕ, ◌+◌, ◌≤◌, ◌⊎◌, List, [], ◌∷◌, Option, Some, None, Result, Ok, Err, IfOk, IfErr, refl, sym, subst, ◌∙◌, inl, inr, arith}
 use Rattle.std.specs.List.{AllByRecursion}
-use Rattle.mpt_base.specs.Outside.{Files, IsSizeTold, Rose}
-use Rattle.mpt_table.specs.Windows.{IfTold}
+use Rattle.mpt_base.specs.Outside.{Files, Rose}
 use Rattle.mpt_spec.specs.declared.tables.Tables.{Tables}
 use Rattle.mpt_spec.specs.Table.{Describes}
 use Rattle.mpt_spec.specs.Canonical.{IsWellFormed}
 use Rattle.mpb_spec.specs.declared.fault.BoardError.{BoardError}
 use Rattle.mpb_spec.specs.Plan.{Plan}
 use Rattle.mpb_spec.specs.declared.fault.BoardError.TheVariants as board_fault
-use Rattle.mpb_spec.specs.Plan.{plan_size}
 use Rattle.mpb_spec.specs.Configs.{IsStartableAt}
 use Rattle.mpt_route.specs.declared.platform.Platform.{Platform}
 use Rattle.mpt_route.specs.Platform.{platform_of}
@@ -21,7 +19,7 @@ use Rattle.mpb_script.specs.declared.script.ScriptFault.{ScriptFault}
 use Rattle.mpb_script.specs.declared.script.ScriptFault.TheVariants as script_fault
 use Rattle.mpb_script.specs.Script.{IsScriptOf, HasFault}
 use Rattle.mpb_script.specs.Values.{HasScriptValues}
-use Rattle.mpb_boards.specs.Boot.{board_of, fault_of, IsBootOf, IsTraceOf}
+use Rattle.mpb_boards.specs.Boot.{IsBootOf, IsTraceOf}
 use Rattle.mpb_boards.specs.Lines.{script_fault_line, board_fault_line, IsScriptFault, IsBoardFault}
 use Rattle.mpt_base.specs.declared.outside.NoMemory.{NoMemory as NoMemoryUnit}
 use Rattle.mpb_report_line.specs.declared.report.Report.{Report as AReport}
@@ -35,12 +33,14 @@ use Rattle.mptab_walk.specs.declared.ending.Ending.TheVariants.{Absent, TooLarge
 use Rattle.mptab_walk.specs.declared.board.BoardEnding.{BoardEnding}
 use Rattle.mptab_walk.specs.declared.board.BoardEnding.TheVariants.{AtImage, AtScript}
 use Rattle.mptab_walk.specs.Texts.{no_memory_line}
-use Rattle.mptab_walk.specs.Boards.{IsDescribed, IsBoardGiven, IsBoardEnding, HasAskedForEnd, board_ending_status, board_ending_text}
+use Rattle.mptab_walk.specs.Boards.{IsDescribed, IsBoardGiven, IsBoardEnding, HasAskedForEnd, board_ending_status, board_ending_text, IsBoardIn, RefusesScript}
 use Rattle.mptab_walk.specs.Forms.{Form, Trace, Boot, Replay, Pic, Named, Image, Script, files_of, name_of, limit_of, IsRead}
-use Rattle.mptab_walk.specs.Commands.{ImageGives, ScriptGives, WithBoard, IsUnderstood, IsRefused, IsText, IsGivenBoard, ReportGives, IsJudged, verdict_status, CallsGive}
+use Rattle.mptab_walk.specs.Commands.{ImageGives, WithBoard, IsUnderstood, IsRefused, IsText, IsGivenBoard, ReportGives, IsJudged, verdict_status, CallsGive}
 use Rattle.mptab_walk.specs.Walk.{Outside, IsQuiet, IsDueOf, AsksOf, Reaches, IsFirstRead, most_of}
-use Rattle.mptab_walk.specs.Ending.{ending_status, ending_text, IsEnding, IsUndisturbed, Shelves, shelves}
-use Rattle.mptab_walk.proofs.AnswerLemmas.{ending_at, IsRead-bytes, IsRead-there, IsEnding-refused, read_there}
+use Rattle.mptab_walk.specs.Ending.{ending_status, ending_text, answer_status, answer_text, IsEnding, IsUndisturbed, Shelves, shelves}
+use Rattle.mptab_walk.specs.Limited.{IsHeldWithin, IsRefusedBy}
+use Rattle.mptab_walk.proofs.AnswerLemmas.{ending_at, read_there}
+use Rattle.mptab_walk.proofs.LimitedLemmas.{held-read, refused_by}
 
 -- what is due behind an earlier moment, since which no read failed and no file was missed
 pub IsDueOf-earlier : (told : Option Files) (first before after : Outside) (form : Form) (status : ℕ) (text : List ℕ) → IsQuiet first before → IsDueOf told before after form status text → IsDueOf told first after form status text
@@ -153,6 +153,12 @@ module _ (told : Option Files) (form : Form) (image script : List ℕ) (third : 
   third-due before after status text kept understood not-absent is =
       inl (inr (subst (λ fs. AllByRecursion (IsUnderstood told) fs) (sym files-are) ((tables, given.gives), (script-understood, (understood, tt))), is), ((λ three. absurd (not-absent three)), kept.0, inr kept.1))
 
+  -- what it is answered there, or want of memory
+  pub third-answer : (before after : Outside) (r : Result Answer NoMemoryUnit) (P : ℕ → List ℕ → Type 0) → IsQuiet before after → IsUnderstood told third → ((status : ℕ) (text : List ℕ) → P status text → (¬ (status ≡ 3)) × IsText told form status text) → IfOk r (λ a. P a.status a.text.items)
+      → IsDueOf told before after form (answer_status r) (answer_text r)
+  third-answer before after (Ok a) P kept is given h = let both = given a.status a.text.items h in third-due before after a.status a.text.items kept is both.0 both.1
+  third-answer before after (Err e) P kept is given h = third-unmade before after kept
+
   -- what is asked for
   pub asks-third : (before between after : ℕ) → between ≤ before + (most_of told (Image image) + most_of told (Script image script)) → after ≤ between + most_of told third → (n : ℕ) × (after ≤ before + n) × AsksOf told (files_of form) n
   asks-third before between after first second = (
@@ -189,12 +195,6 @@ played-text told image script calls tables c given ops text lists played =
 
 -- ---- a script
 
--- a refusal with this status and line, or want of memory for it; the line is there where something is at fault
-refused_or : (told : Option Files) (s : Shelves) (file : Named) (answer : Result Answer NoMemoryUnit) (e : Ending) (status : ℕ) (text : List ℕ) (Q : Type 0) → (Q → IsRefused told file status text) → IsRead told file (λ bytes. Unit {0}) → IsUndisturbed s
-    → IfOk answer (λ a. (a.status ≡ status) × (a.text.items ≡ text) × Q) → IfOk answer (λ a. e ≡ Refused a) → IfErr answer (λ m. e ≡ NoMemory) → IsEnding told s file e
-refused_or told s file (Ok a) e status text Q refused there kept is ok err = IsEnding-refused told s file (Ok a) e status text (refused is.2) there kept (is.0, is.1) ok err
-refused_or told s file (Err m) e status text Q refused there kept is ok err = subst (IsEnding told s file) (sym err) (there, kept)
-
 script-fault : (bytes : List ℕ) (f : ScriptFault) → IsCauseOf bytes f → IsScriptFault f → HasFault bytes f
 script-fault bytes script_fault.NotToml h some = h
 script-fault bytes (script_fault.Key name) h some = h
@@ -213,25 +213,29 @@ board-fault p s (board_fault.ManyIo n) h some = h
 board-fault p s (board_fault.NoIo place) h some = h
 board-fault p s board_fault.NoMemory h some = absurd some
 
-module _ (told : Option Files) (s : Shelves) (image name : List ℕ) (size : ℕ) (bytes : List ℕ) (is : IsSizeTold told name (Some size)) (within : size ≤ limit_of (Script image name)) (same : IfTold told name (λ held. held ≡ bytes)) (kept : IsUndisturbed s) where
-  there : IsRead told (Script image name) (λ bytes. Unit {0})
-  there = IsRead-there told (Script image name) size is within
+-- a refusal with this line, which is there where something is at fault, or want of memory for it
+refused_for : (answer : Result Answer NoMemoryUnit) (e : Ending) (refuses : ℕ → List ℕ → Type 0) (status : ℕ) (text : List ℕ) (Q : Type 0) → (Q → refuses status text) → IfOk answer (λ a. (a.status ≡ status) × (a.text.items ≡ text) × Q) → IfOk answer (λ a. e ≡ Refused a) → IfErr answer (λ m. e ≡ NoMemory)
+    → IsRefusedBy refuses e
+refused_for (Ok a) e refuses status text Q refused is ok err = refused_by (Ok a) e refuses status text (refused is.2) (is.0, is.1) ok err
+refused_for (Err m) e refuses status text Q refused is ok err = subst (IsRefusedBy refuses) (sym err) tt
 
-  -- a script that its reader refuses
-  pub script-refused : (f : ScriptFault) (answer : Result Answer NoMemoryUnit) (e : Ending) → IsCauseOf bytes f → IfOk answer (λ a. (a.status ≡ 8) × (a.text.items ≡ script_fault_line f) × IsScriptFault f) → IfOk answer (λ a. e ≡ Refused a) → IfErr answer (λ m. e ≡ NoMemory)
-      → IsEnding told s (Script image name) e
-  script-refused f answer e cause = refused_or told s (Script image name) answer e 8 (script_fault_line f) (IsScriptFault f)
-      (λ some. inl (refl, f, some, IsRead-bytes told (Script image name) size bytes (λ text. HasFault text f) is within same (script-fault bytes f cause some), refl)) there kept
+-- a text that the reader of scripts refuses
+pub script-refused : (tables : Tables) (bytes : List ℕ) (f : ScriptFault) (answer : Result Answer NoMemoryUnit) (e : Ending) → IsCauseOf bytes f → IfOk answer (λ a. (a.status ≡ 8) × (a.text.items ≡ script_fault_line f) × IsScriptFault f) → IfOk answer (λ a. e ≡ Refused a) → IfErr answer (λ m. e ≡ NoMemory)
+    → IsRefusedBy (RefusesScript tables bytes) e
+script-refused tables bytes f answer e cause = refused_for answer e (RefusesScript tables bytes) 8 (script_fault_line f) (IsScriptFault f) (λ some. inl (refl, f, some, script-fault bytes f cause some, refl))
 
-  module _ (tables : Tables) (script : AScript) (low_form : IsWellFormed tables) (gives : ImageGives told image tables) (values : HasScriptValues script) (reads : IsScriptOf bytes script) where
-    gives-script : ScriptGives told image name script
-    gives-script = (values, IsRead-bytes told (Script image name) size bytes (λ text. IsScriptOf text script) is within same reads)
+-- a script that describes no board
+pub board-refused : (tables : Tables) (bytes : List ℕ) (script : AScript) (f : BoardError) (answer : Result Answer NoMemoryUnit) (e : Ending) → HasScriptValues script → IsScriptOf bytes script → BoardCause (platform_of tables) script f
+    → IfOk answer (λ a. (a.status ≡ 11) × (a.text.items ≡ board_fault_line f) × IsBoardFault f) → IfOk answer (λ a. e ≡ Refused a) → IfErr answer (λ m. e ≡ NoMemory) → IsRefusedBy (RefusesScript tables bytes) e
+board-refused tables bytes script f answer e values reads cause = refused_for answer e (RefusesScript tables bytes) 11 (board_fault_line f) (IsBoardFault f) (λ some. inr (refl, script, values, reads, f, board-fault (platform_of tables) script f cause some, refl))
 
-    -- one that describes no board
-    pub board-refused : (f : BoardError) (answer : Result Answer NoMemoryUnit) (e : Ending) → BoardCause (platform_of tables) script f → IfOk answer (λ a. (a.status ≡ 11) × (a.text.items ≡ board_fault_line f) × IsBoardFault f) → IfOk answer (λ a. e ≡ Refused a) → IfErr answer (λ m. e ≡ NoMemory)
-        → IsEnding told s (Script image name) e
-    board-refused f answer e cause = refused_or told s (Script image name) answer e 11 (board_fault_line f) (IsBoardFault f)
-        (λ some. inr (refl, tables, low_form, gives, script, gives-script, f, board-fault (platform_of tables) script f cause some, refl)) there kept
+module _ (told : Option Files) (image name bytes : List ℕ) (held : IsHeldWithin told name (limit_of (Script image name)) bytes) (tables : Tables) where
+  -- the file is refused for what its text is refused for
+  pub script-ends : IsWellFormed tables → ImageGives told image tables → (status : ℕ) (text : List ℕ) → RefusesScript tables bytes status text → IsRefused told (Script image name) status text
+  script-ends low_form gives status text (inl h) = inl (h.0, h.1, h.2, held-read told (Script image name) bytes held (λ script. HasFault script h.1) h.3, h.4)
+  script-ends low_form gives status text (inr h) = inr (h.0, tables, low_form, gives, h.1, (h.2, held-read told (Script image name) bytes held (λ script. IsScriptOf script h.1) h.3), h.4, h.5, h.6)
 
-    pub board-given : (c : Plan) → fault_of tables script ≡ None → c ≡ board_of tables script → IsStartableAt script.page c → plan_size c < 2 ^ 32 → IsGivenBoard told image name tables c
-    board-given c sound config startable small = record { script = script; gives = gives-script; sound = sound; config = config; startable = startable; small = small }
+  -- the board of its text is that of the file
+  pub board-given : (r : Result Plan Ending) → IfOk r (IsBoardIn tables bytes) → IfOk r (IsGivenBoard told image name tables)
+  board-given (Ok c) h = record { script = h.script; gives = (h.values, held-read told (Script image name) bytes held (λ script. IsScriptOf script h.script) h.reads); sound = h.sound; config = h.config; startable = h.startable; small = h.small }
+  board-given (Err e) h = tt

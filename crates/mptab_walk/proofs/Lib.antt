@@ -5,4 +5,4 @@ pub mod BoardLemmas
 pub mod FormReading
 pub mod SecondLemmas
 pub mod LimitedLemmas
-pub mod RouteLemmas
+pub mod MadeLemmas

@@ -1,5 +1,5 @@
 -- What is said of the bytes of a file that was read whole is said of the file.
-use Rattle.std.proofs.Common.{◌≡◌, ℕ, ◌+◌, ◌≤◌, ◌<◌, List, length, Option, Some, None, Result, Ok, Err, IfOk, IfErr, refl, sym, subst, ap, ◌∙◌, arith}
+use Rattle.std.proofs.Common.{◌≡◌, ℕ, ◌+◌, ◌≤◌, ◌<◌, List, length, Option, Some, None, Result, Ok, Err, IfOk, IfErr, refl, sym, subst, ap, ◌∙◌, inl, inr, Vec, Global, arith}
 use Rattle.std.specs.Prelude.{nat_lt, if◌then◌else◌, option_map, Bool, true, false}
 use Rattle.std.proofs.lemmas.Bool.{ltb-true}
 use Rattle.mpt_base.specs.Outside.{Files, IsSizeTold, Rose}
@@ -7,11 +7,13 @@ use Rattle.mpt_base.specs.declared.outside.NoMemory.{NoMemory as NoMemoryUnit}
 use Rattle.mptab_walk.specs.declared.answer.Answer.{Answer}
 use Rattle.mptab_walk.specs.declared.ending.Ending.{Ending}
 use Rattle.mptab_walk.specs.declared.ending.Ending.TheVariants.{Absent, TooLarge, Unread, Refused, NoMemory}
-use Rattle.mptab_walk.specs.Forms.{Named, name_of, limit_of, most_asked, IsRead}
+use Rattle.mpt_parse.specs.Listings.{IsListing, IsListingOf, IsFirstBadLine}
+use Rattle.mpt_table.specs.Windows.{IfTold}
+use Rattle.mptab_walk.specs.Forms.{Named, Listing, name_of, limit_of, most_asked, IsRead}
 use Rattle.mptab_walk.specs.Commands.{IsRefused}
 use Rattle.mptab_walk.specs.Walk.{most_of, most_of_held}
 use Rattle.mptab_walk.specs.Ending.{IsEnding, IsUndisturbed, Shelves, shelves}
-use Rattle.mptab_walk.specs.Limited.{IsHeldWithin, IsUnreadEnding, most_held, most_within, IsRefusedBy}
+use Rattle.mptab_walk.specs.Limited.{IsHeldWithin, IsUnreadEnding, most_held, most_within, IsRefusedBy, RefusesListing}
 use Rattle.mptab_walk.proofs.AnswerLemmas.{IsRead-bytes, IsRead-there}
 
 module _ (told : Option Files) (file : Named) (bytes : List ℕ) (held : IsHeldWithin told (name_of file) (limit_of file) bytes) where
@@ -35,6 +37,13 @@ module _ (told : Option Files) (file : Named) (bytes : List ℕ) (held : IsHeldW
   pub held-ended : {X : Type 0} (r : Result X Ending) (s : Shelves) (refuses : ℕ → List ℕ → Type 0) → IsUndisturbed s → ((status : ℕ) (text : List ℕ) → refuses status text → IsRefused told file status text) → IfErr r (IsRefusedBy refuses) → IfErr r (IsEnding told s file)
   held-ended (Ok x) s refuses kept refused h = tt
   held-ended (Err e) s refuses kept refused h = held-ends s e refuses kept refused h
+
+-- the bytes that are read of a file of this size are those of the file
+pub held-within : (r : Result (Vec ℕ Global) Ending) (later told : Option Files) (name : List ℕ) (limit size : ℕ) → later ≡ told → IsSizeTold told name (Some size) → size ≤ limit → IfOk r (λ bytes. length bytes.items ≡ size) → IfOk r (λ bytes. IfTold later name (λ file. file ≡ bytes.items))
+    → IfOk r (λ bytes. IsHeldWithin told name limit bytes.items)
+held-within (Ok bytes) later told name limit size stays is within long held =
+    record { within = omega (arith, long, within); size = subst (λ (n : ℕ). IsSizeTold told name (Some n)) (sym long) is; held = subst (λ (t : Option Files). IfTold t name (λ file. file ≡ bytes.items)) stays held }
+held-within (Err e) later told name limit size stays is within long held = tt
 
 -- what is met at the file of a name
 pub absent-at : (told : Option Files) (s : Shelves) (name : List ℕ) (file : Named) → name_of file ≡ name → IsSizeTold told name None → Rose s.misses s.misses_after → s.faults_after ≡ s.faults → IsEnding told s file Absent
@@ -80,3 +89,12 @@ pub refused_by : (answer : Result Answer NoMemoryUnit) (e : Ending) (refuses : �
     → IsRefusedBy refuses e
 refused_by (Ok a) e refuses status text h is ok err = subst (IsRefusedBy refuses) (sym ok) (subst (λ t. refuses a.status t) (sym is.1) (subst (λ n. refuses n text) (sym is.0) h))
 refused_by (Err m) e refuses status text h is ok err = subst (IsRefusedBy refuses) (sym err) tt
+
+pub both-ok : {X E : Type 0} (r : Result X E) (P Q : X → Type 0) → IfOk r P → IfOk r Q → IfOk r (λ x. P x × Q x)
+both-ok (Ok x) P Q p q = (p, q)
+both-ok (Err e) P Q p q = tt
+
+-- a listing is refused for what its text is refused for
+pub listing-refused : (told : Option Files) (name bytes : List ℕ) → IsHeldWithin told name (limit_of (Listing name)) bytes → (status : ℕ) (text : List ℕ) → RefusesListing bytes status text → IsRefused told (Listing name) status text
+listing-refused told name bytes held status text (inl h) = inl (h.0, h.1, h.2, held-read told (Listing name) bytes held (λ listing. IsFirstBadLine IsListing listing h.1 h.2) h.3, h.4)
+listing-refused told name bytes held status text (inr h) = inr (h.0, h.1, held-read told (Listing name) bytes held (λ listing. IsListingOf h.1 listing) h.2, h.3, h.4)

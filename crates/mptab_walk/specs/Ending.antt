@@ -1,11 +1,14 @@
 -- Why the walk ends at a file, as code says it. Only private functions of the crate cite this.
 --     ending_status e, ending_text name e    the status, and the line for a file of this name
+--     answer_status r, answer_text r         status and text of an answer, or want of memory for it
 --     IsEnding told s file e                 the walk ends at the file for this reason
 --     shelves_of S before after              the counts of a shelf at two moments
 --     IsUndisturbed s                        no call failed between them, and no file was missed
-use Rattle.std.specs.Prelude.{◌≡◌, ℕ, List, Option, ⊤}
+use Rattle.std.specs.Prelude.{◌≡◌, ℕ, List, Option, Result, Ok, Err, ⊤}
+use Rattle.mpt_base.specs.declared.outside.NoMemory.{NoMemory as NoMemoryUnit}
 use Rattle.mpt_base.specs.Outside.{Files, Rose}
 use Rattle.mpt_base.specs.declared.outside.Shelf.{Ghosts as ShelfOf}
+use Rattle.mptab_walk.specs.declared.answer.Answer.{Answer}
 use Rattle.mptab_walk.specs.declared.ending.Ending.{Ending}
 use Rattle.mptab_walk.specs.declared.ending.Ending.TheVariants.{Absent, TooLarge, Unread, Refused, NoMemory}
 use Rattle.mptab_walk.specs.Texts.{no_file_line, cannot_read_line, no_memory_line, too_large_line}
@@ -26,6 +29,14 @@ ending_text name Unread = cannot_read_line name
 ending_text name (Refused answer) = answer.text.items
 ending_text name NoMemory = no_memory_line
 ending_text name (TooLarge size) = too_large_line name size
+
+abbrev pub answer_status : Result Answer NoMemoryUnit → ℕ
+answer_status (Ok answer) = answer.status
+answer_status (Err e) = 9
+
+abbrev pub answer_text : Result Answer NoMemoryUnit → List ℕ
+answer_text (Ok answer) = answer.text.items
+answer_text (Err e) = no_memory_line
 
 -- this many misses and faults of the shelf, before and after
 pub record Shelves : Type 0 where

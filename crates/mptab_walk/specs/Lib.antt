@@ -6,3 +6,4 @@ pub mod Ending
 pub mod Limited
 pub mod File
 pub mod Boards
+pub mod Made

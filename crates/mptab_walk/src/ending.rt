@@ -3,7 +3,7 @@
 ghost use Rattle.std.specs.Prelude.{◌≡◌, IfOk, IfErr};
 ghost use Rattle.mptab_walk.specs.Texts.{too_large_line};
 ghost use Rattle.mptab_walk.specs.Walk.{IsDelivered, outside};
-ghost use Rattle.mptab_walk.specs.Ending.{ending_status, ending_text};
+ghost use Rattle.mptab_walk.specs.Ending.{ending_status, ending_text, answer_status, answer_text};
 
 use crate::answer::Answer;
 use crate::delivery::{deliver_line, deliver_text};
@@ -60,6 +60,18 @@ fn refuse_size<O: Sink>(name: &str, size: u64, out: &mut O) -> u8
             digits.as_bytes(),
         ],
     )
+}
+
+/// Delivers the answer, or says that there is no memory for it, and answers the status.
+pub(crate) fn deliver_answer<O: Sink>(answer: Result<Answer, NoMemory>, out: &mut O) -> u8
+    ensures { IsDelivered (outside 0 0 0 (O.faults out.old) (O.written out.old))
+        (outside 0 0 0 (O.faults out.new) (O.written out.new))
+        result (answer_status answer) (answer_text answer) }
+{
+    match answer {
+        Ok(answer) => deliver_text(out, answer.status, answer.text.as_slice()),
+        Err(NoMemory) => deliver_line(out, NO_MEMORY, &[b"mptab: no memory"]),
+    }
 }
 
 /// The refusal with this line, or that there is no memory for it.

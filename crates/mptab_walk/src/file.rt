@@ -64,7 +64,9 @@ fn fill<S: Shelf>(shelf: &mut S, name: &str, buf: &mut [u8]) -> Result<(), Faile
     let mut at = 0;
     while at < len {
         let end = len.min(at + PIECE);
-        shelf.read_at(name, at as u64, &mut buf[at..end])?;
+        if let Err(failed) = shelf.read_at(name, at as u64, &mut buf[at..end]) {
+            return Err(failed);
+        }
         at = end;
     }
     Ok(())

@@ -2,7 +2,7 @@
 
 ghost use Rattle.std.specs.Prelude.{◌≡◌, ◌≤◌, ◌<◌, ◌+◌, ◌^◌, ℕ, List, IfOk};
 ghost use Rattle.mpt_spec.specs.Canonical.{IsWellFormed};
-ghost use Rattle.mpt_route.specs.Platform.{platform_of};
+ghost use Rattle.mpt_route.specs.Platform.{platform_of, IsSmallPlatform};
 ghost use Rattle.mpt_route.specs.Routes.{routes_of};
 ghost use Rattle.mpf_answers.specs.LineDifferences.{line_differences_of};
 ghost use Rattle.mptab_walk.specs.Forms.{Madtcmp, AcpiTable, files_of};
@@ -10,8 +10,7 @@ ghost use Rattle.mptab_walk.specs.Commands.{ImageGives, IsMadtCompared, status_o
 ghost use Rattle.mptab_walk.specs.Walk.{IsDueOf, IsDelivered, AsksOf, most_of, outside_of};
 
 use crate::answer::Answer;
-use crate::delivery::deliver_text;
-use crate::ending::{Ending, refuse};
+use crate::ending::{deliver_answer, refuse};
 use crate::firmware::take_madt;
 use crate::image::take_image;
 use crate::status::{DONE, FINDINGS};
@@ -19,7 +18,7 @@ use crate::words::MadtFiles;
 use mpf_answers::{LineDifference, line_differences, print_line_differences};
 use mpf_madt::Madt;
 use mpt_base::{NoMemory, Shelf, Sink};
-use mpt_route::{platform_of, routes};
+use mpt_route::{Platform, platform_of, routes};
 use mpt_table::Tables;
 use std::alloc::Global;
 
@@ -33,9 +32,26 @@ fn found_in(
     requires { IsWellFormed tables.now }
     ensures { IfOk result (λ found. found.items ≡ line_differences_of (platform_of tables.now) (routes_of (platform_of tables.now) elcr) madt.now) }
 {
-    let platform = platform_of(alloc, tables)?;
-    let answers = routes(alloc, &platform, elcr)?;
-    line_differences(alloc, &platform, answers.as_slice(), madt)
+    match platform_of(alloc, tables) {
+        Ok(platform) => found_on(alloc, &platform, elcr, madt),
+        Err(error) => Err(error),
+    }
+}
+
+// the same of the routes of a platform
+fn found_on(
+    alloc: Global,
+    platform: &Platform,
+    elcr: u16,
+    madt: &Madt,
+) -> Result<Vec<LineDifference>, NoMemory>
+    requires { IsSmallPlatform platform.now }
+    ensures { IfOk result (λ found. found.items ≡ line_differences_of platform.now (routes_of platform.now elcr) madt.now) }
+{
+    match routes(alloc, platform, elcr) {
+        Ok(answers) => line_differences(alloc, platform, answers.as_slice(), madt),
+        Err(error) => Err(error),
+    }
 }
 
 // their lines, and 1 where there is one
@@ -43,13 +59,17 @@ fn compared(alloc: Global, tables: &Tables, elcr: u16, madt: &Madt) -> Result<An
     requires { IsWellFormed tables.now }
     ensures { IfOk result (λ answer. IsMadtCompared elcr tables.now madt.now answer.status answer.text.items) }
 {
-    let found = found_in(alloc, tables, elcr, madt)?;
+    let Ok(found) = found_in(alloc, tables, elcr, madt) else {
+        return Err(NoMemory);
+    };
     let differences = found.as_slice();
-    let text = print_line_differences(alloc, differences)?;
-    Ok(Answer {
-        status: status_of(differences),
-        text,
-    })
+    match print_line_differences(alloc, differences) {
+        Ok(text) => Ok(Answer {
+            status: status_of(differences),
+            text,
+        }),
+        Err(error) => Err(error),
+    }
 }
 
 fn status_of(found: &[LineDifference]) -> u8
@@ -76,10 +96,7 @@ fn give_of_madt<S: Shelf, O: Sink>(
     ensures asks { S.asked shelf.new ≤ S.asked shelf.old + most_of (S.files shelf.old) (AcpiTable files.entry.madt.now) }
 {
     match take_madt(alloc, files.madt, shelf) {
-        Ok(madt) => match compared(alloc, tables, files.elcr, &madt) {
-            Ok(answer) => deliver_text(out, answer.status, answer.text.as_slice()),
-            Err(NoMemory) => refuse(files.madt, Ending::NoMemory, out),
-        },
+        Ok(madt) => deliver_answer(compared(alloc, tables, files.elcr, &madt), out),
         Err(ending) => refuse(files.madt, ending, out),
     }
 }

@@ -3,12 +3,14 @@
 ghost use Rattle.std.specs.Prelude.{◌≡◌, ◌≤◌, ◌<◌, ◌+◌, ◌^◌, ℕ, List, IfOk};
 ghost use Rattle.mpt_spec.specs.Canonical.{IsWellFormed};
 ghost use Rattle.mptab_walk.specs.Forms.{Pircmp, RoutingTable, files_of};
-ghost use Rattle.mptab_walk.specs.Commands.{ImageGives, IsPirCompared};
+ghost use Rattle.mpf_pir.specs.declared.comparing.Difference.{Difference as ADifference};
+ghost use Rattle.mpf_pir.specs.Differences.{AreDifferencesOf};
+ghost use Rattle.mpf_answers.specs.PinLines.{pin_differences_text};
+ghost use Rattle.mptab_walk.specs.Commands.{ImageGives, IsPirCompared, status_of};
 ghost use Rattle.mptab_walk.specs.Walk.{IsDueOf, IsDelivered, AsksOf, most_of, outside_of};
 
 use crate::answer::Answer;
-use crate::delivery::deliver_text;
-use crate::ending::{Ending, refuse};
+use crate::ending::{deliver_answer, refuse};
 use crate::firmware::take_pir;
 use crate::image::take_image;
 use crate::status::{DONE, FINDINGS};
@@ -16,7 +18,7 @@ use crate::words::PirFiles;
 use mpf_answers::print_pin_differences;
 use mpf_pir::{Pir, compare};
 use mpt_base::{NoMemory, Shelf, Sink};
-use mpt_route::platform_of;
+use mpt_route::{Platform, platform_of};
 use mpt_table::Tables;
 use std::alloc::Global;
 
@@ -25,11 +27,26 @@ fn compared(alloc: Global, tables: &Tables, pir: &Pir) -> Result<Answer, NoMemor
     requires { IsWellFormed tables.now }
     ensures { IfOk result (λ answer. IsPirCompared tables.now pir.now answer.status answer.text.items) }
 {
-    let platform = platform_of(alloc, tables)?;
-    let found = compare(alloc, &platform, pir)?;
-    let text = print_pin_differences(alloc, found.as_slice())?;
-    let status = if found.is_empty() { DONE } else { FINDINGS };
-    Ok(Answer { status, text })
+    match platform_of(alloc, tables) {
+        Ok(platform) => compared_on(alloc, &platform, pir),
+        Err(error) => Err(error),
+    }
+}
+
+// the same of a platform
+fn compared_on(alloc: Global, platform: &Platform, pir: &Pir) -> Result<Answer, NoMemory>
+    ensures { IfOk result (λ answer. (found : List ADifference) × AreDifferencesOf platform.now pir.now found × (answer.status ≡ status_of found) × (answer.text.items ≡ pin_differences_text found)) }
+{
+    let Ok(found) = compare(alloc, platform, pir) else {
+        return Err(NoMemory);
+    };
+    match print_pin_differences(alloc, found.as_slice()) {
+        Ok(text) => {
+            let status = if found.is_empty() { DONE } else { FINDINGS };
+            Ok(Answer { status, text })
+        }
+        Err(error) => Err(error),
+    }
 }
 
 // takes the PCI IRQ routing table, and delivers where it differs
@@ -50,10 +67,7 @@ fn give_of_pir<S: Shelf, O: Sink>(
     ensures asks { S.asked shelf.new ≤ S.asked shelf.old + most_of (S.files shelf.old) (RoutingTable files.entry.table.now) }
 {
     match take_pir(alloc, files.table, shelf) {
-        Ok(pir) => match compared(alloc, tables, &pir) {
-            Ok(answer) => deliver_text(out, answer.status, answer.text.as_slice()),
-            Err(NoMemory) => refuse(files.table, Ending::NoMemory, out),
-        },
+        Ok(pir) => deliver_answer(compared(alloc, tables, &pir), out),
         Err(ending) => refuse(files.table, ending, out),
     }
 }

@@ -111,44 +111,52 @@ pub(crate) fn unfit(alloc: Global, size: u64) -> Result<Answer, NoMemory>
 pub(crate) fn bad_script(alloc: Global, fault: ScriptFault) -> Result<Answer, NoMemory>
     ensures { IfOk result (λ a. (a.status ≡ 8) × (a.text.items ≡ script_fault_line fault) × IsScriptFault fault) }
 {
-    let text = script_fault_line(alloc, fault)?;
-    Ok(Answer {
-        status: NOT_LISTED,
-        text,
-    })
+    match script_fault_line(alloc, fault) {
+        Ok(text) => Ok(Answer {
+            status: NOT_LISTED,
+            text,
+        }),
+        Err(error) => Err(error),
+    }
 }
 
 /// Tables and script describe no board, for this reason.
 pub(crate) fn bad_board(alloc: Global, error: BoardError) -> Result<Answer, NoMemory>
     ensures { IfOk result (λ a. (a.status ≡ 11) × (a.text.items ≡ board_fault_line error) × IsBoardFault error) }
 {
-    let text = board_fault_line(alloc, error)?;
-    Ok(Answer {
-        status: NO_BOARD,
-        text,
-    })
+    match board_fault_line(alloc, error) {
+        Ok(text) => Ok(Answer {
+            status: NO_BOARD,
+            text,
+        }),
+        Err(error) => Err(error),
+    }
 }
 
 /// The MADT has this first fault.
 pub(crate) fn bad_madt(alloc: Global, at: u64, why: MadtReason) -> Result<Answer, NoMemory>
     ensures { IfOk result (λ a. (a.status ≡ 13) × (a.text.items ≡ madt_fault_line at why)) }
 {
-    let text = madt_fault_line(alloc, at, why)?;
-    Ok(Answer {
-        status: NO_MADT,
-        text,
-    })
+    match madt_fault_line(alloc, at, why) {
+        Ok(text) => Ok(Answer {
+            status: NO_MADT,
+            text,
+        }),
+        Err(error) => Err(error),
+    }
 }
 
 /// There are this many processors, too many for a MADT.
 pub(crate) fn many_processors(alloc: Global, n: u32) -> Result<Answer, NoMemory>
     ensures { IfOk result (λ a. (a.status ≡ 13) × (a.text.items ≡ many_processors_line n)) }
 {
-    let text = many_processors_line(alloc, n)?;
-    Ok(Answer {
-        status: NO_MADT,
-        text,
-    })
+    match many_processors_line(alloc, n) {
+        Ok(text) => Ok(Answer {
+            status: NO_MADT,
+            text,
+        }),
+        Err(error) => Err(error),
+    }
 }
 
 /// The text of calls has this first bad line.
@@ -170,22 +178,26 @@ pub(crate) fn bad_calls(alloc: Global, line: u32) -> Result<Answer, NoMemory>
 pub(crate) fn bad_pir(alloc: Global, at: u64, why: PirReason) -> Result<Answer, NoMemory>
     ensures { IfOk result (λ a. (a.status ≡ 15) × (a.text.items ≡ pir_fault_line at why)) }
 {
-    let text = pir_fault_line(alloc, at, why)?;
-    Ok(Answer {
-        status: NO_ROUTING_TABLE,
-        text,
-    })
+    match pir_fault_line(alloc, at, why) {
+        Ok(text) => Ok(Answer {
+            status: NO_ROUTING_TABLE,
+            text,
+        }),
+        Err(error) => Err(error),
+    }
 }
 
 /// There is no PCI IRQ routing table of the platform, for this reason.
 pub(crate) fn unmade_pir(alloc: Global, fault: MakeFault) -> Result<Answer, NoMemory>
     ensures { IfOk result (λ a. (a.status ≡ 15) × (a.text.items ≡ make_fault_line fault) × (fault ≢ make.NoMemory)) }
 {
-    let text = make_fault_line(alloc, fault)?;
-    Ok(Answer {
-        status: NO_ROUTING_TABLE,
-        text,
-    })
+    match make_fault_line(alloc, fault) {
+        Ok(text) => Ok(Answer {
+            status: NO_ROUTING_TABLE,
+            text,
+        }),
+        Err(error) => Err(error),
+    }
 }
 
 fn line_why_name(why: LineWhy) -> &'static [u8]

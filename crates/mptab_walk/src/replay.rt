@@ -9,8 +9,7 @@ ghost use Rattle.mptab_walk.specs.Boards.{IsBoardGiven};
 
 use crate::answer::Answer;
 use crate::board::{refuse_board, take_board};
-use crate::delivery::deliver_text;
-use crate::ending::{Ending, refuse};
+use crate::ending::{deliver_answer, refuse};
 use crate::report::take_report;
 use crate::status::{DONE, FINDINGS};
 use crate::words::ReplayFiles;
@@ -39,10 +38,16 @@ fn judged(alloc: Global, config: Config, report: &Report) -> Result<Answer, NoMe
     requires few { length report.now.entries < 2 ^ 32 }
     ensures { IfOk result (λ answer. IsJudged config report.now answer.status answer.text.items) }
 {
-    let verdict = replay(alloc, config, report)?;
-    let text = verdict_line(alloc, verdict)?;
-    let status = status_of(verdict);
-    Ok(Answer { status, text })
+    let Ok(verdict) = replay(alloc, config, report) else {
+        return Err(NoMemory);
+    };
+    match verdict_line(alloc, verdict) {
+        Ok(text) => Ok(Answer {
+            status: status_of(verdict),
+            text,
+        }),
+        Err(error) => Err(error),
+    }
 }
 
 // takes the report, and delivers the verdict on it
@@ -61,10 +66,7 @@ fn give_of_report<S: Shelf, O: Sink>(
     ensures asks { S.asked shelf.new ≤ S.asked shelf.old + most_of (S.files shelf.old) (AReport files.entry.report.now) }
 {
     match take_report(alloc, files.report, shelf) {
-        Ok(report) => match judged(alloc, config, &report) {
-            Ok(answer) => deliver_text(out, answer.status, answer.text.as_slice()),
-            Err(NoMemory) => refuse(files.report, Ending::NoMemory, out),
-        },
+        Ok(report) => deliver_answer(judged(alloc, config, &report), out),
         Err(ending) => refuse(files.report, ending, out),
     }
 }

@@ -5,11 +5,10 @@ ghost use Rattle.mptab_walk.specs.Forms.{files_of, form_of_tables};
 ghost use Rattle.mptab_walk.specs.Walk.{IsDueOf, IsDelivered, AsksOf, outside_of};
 
 use crate::answer::answer_to;
-use crate::delivery::deliver_text;
-use crate::ending::{Ending, refuse};
+use crate::ending::{deliver_answer, refuse};
 use crate::source::take;
 use crate::words::{TablesCommand, name_in, source_named};
-use mpt_base::{NoMemory, Shelf, Sink};
+use mpt_base::{Shelf, Sink};
 use std::alloc::Global;
 
 /// Does what a form over tables says, and answers the status.
@@ -27,10 +26,7 @@ pub fn give_of_tables<S: Shelf, O: Sink>(
 {
     let source = source_named(command);
     match take(alloc, source, shelf) {
-        Ok(tables) => match answer_to(alloc, command, tables) {
-            Ok(answer) => deliver_text(out, answer.status, answer.text.as_slice()),
-            Err(NoMemory) => refuse(name_in(source), Ending::NoMemory, out),
-        },
+        Ok(tables) => deliver_answer(answer_to(alloc, command, tables), out),
         Err(ending) => refuse(name_in(source), ending, out),
     }
 }

@@ -1,6 +1,6 @@
 //! The words of a command line, and the form that they are.
 
-ghost use Rattle.std.specs.Prelude.{◌≡◌, ◌≢◌, ◌∷◌, [], codes, MatchOption};
+ghost use Rattle.std.specs.Prelude.{◌≡◌, ◌≢◌, ◌∷◌, [], codes, MatchOption, IsTrue, false};
 ghost use Rattle.mptab_walk.specs.Forms.{IsForm, IsAny, form_of, form_of_tables, file_of_tables, name_of, named_of};
 ghost use Rattle.mptab_walk.specs.Walk.{IsNoForm, texts_of};
 
@@ -111,12 +111,20 @@ pub fn command_of(words: &[String]) -> Option<Command>
     }
 }
 
+// whether the word is this one; a call of it has fewer steps to prove than a comparison where it stands
+fn is(word: &str, name: &str) -> bool
+    ensures same { IsTrue result → word.now ≡ name.now }
+    ensures other { result ≡ false → word.now ≢ name.now }
+{
+    word == name
+}
+
 // a command over one file, or a drill
 fn of_two_words<'a>(word: &str, name: &'a str) -> Option<Command<'a>>
     ensures { MatchOption result (IsNoForm IsAny (word.now ∷ name.now ∷ []))
         (λ command. IsForm (form_of command) (word.now ∷ name.now ∷ [])) }
 {
-    if word == "drill" {
+    if is(word, "drill") {
         return of_number(name);
     }
     match of_one_file(word, name) {
@@ -142,17 +150,17 @@ fn of_one_file<'a>(word: &str, name: &'a str) -> Option<TablesCommand<'a>>
     ensures { MatchOption result (IsNoForm IsAny (word.now ∷ name.now ∷ []))
         (λ command. IsForm (form_of_tables command) (word.now ∷ name.now ∷ [])) }
 {
-    if word == "show" {
+    if is(word, "show") {
         Some(TablesCommand::Show(name))
-    } else if word == "audit" {
+    } else if is(word, "audit") {
         Some(TablesCommand::Audit(name))
-    } else if word == "canon" {
+    } else if is(word, "canon") {
         Some(TablesCommand::Canon(name))
-    } else if word == "raise" {
+    } else if is(word, "raise") {
         Some(TablesCommand::Raise(name))
-    } else if word == "pirmake" {
+    } else if is(word, "pirmake") {
         Some(TablesCommand::Pirmake(name))
-    } else if word == "build" {
+    } else if is(word, "build") {
         Some(TablesCommand::Build(name))
     } else {
         None
@@ -164,9 +172,9 @@ fn of_three_words<'a>(word: &str, name: &'a str, third: &'a str) -> Option<Comma
     ensures { MatchOption result (IsNoForm IsAny (word.now ∷ name.now ∷ third.now ∷ []))
         (λ command. IsForm (form_of command) (word.now ∷ name.now ∷ third.now ∷ [])) }
 {
-    if word == "route" {
+    if is(word, "route") {
         of_route(name, third)
-    } else if word == "madt" {
+    } else if is(word, "madt") {
         of_madt(name, third)
     } else {
         of_two_files(word, name, third)
@@ -206,13 +214,13 @@ fn of_two_files<'a>(word: &str, image: &'a str, second: &'a str) -> Option<Comma
     ensures { MatchOption result (IsNoForm IsAny (word.now ∷ image.now ∷ second.now ∷ []))
         (λ command. IsForm (form_of command) (word.now ∷ image.now ∷ second.now ∷ [])) }
 {
-    if word == "trace" {
+    if is(word, "trace") {
         let script = second;
         Some(Command::Still(StillCommand::Trace(BoardFiles { image, script })))
-    } else if word == "boot" {
+    } else if is(word, "boot") {
         let script = second;
         Some(Command::Boot(BoardFiles { image, script }))
-    } else if word == "pircmp" {
+    } else if is(word, "pircmp") {
         let table = second;
         Some(Command::Still(StillCommand::Pircmp(PirFiles { image, table })))
     } else {
@@ -230,7 +238,7 @@ fn of_four_words<'a>(
     ensures { MatchOption result (IsNoForm IsAny (word.now ∷ image.now ∷ second.now ∷ third.now ∷ []))
         (λ command. IsForm (form_of command) (word.now ∷ image.now ∷ second.now ∷ third.now ∷ [])) }
 {
-    if word == "madtcmp" {
+    if is(word, "madtcmp") {
         of_madtcmp(image, second, third)
     } else {
         of_three_files(word, image, second, third)
@@ -260,10 +268,10 @@ fn of_three_files<'a>(
         (λ command. IsForm (form_of command) (word.now ∷ image.now ∷ script.now ∷ third.now ∷ [])) }
 {
     let board = BoardFiles { image, script };
-    if word == "replay" {
+    if is(word, "replay") {
         let report = third;
         Some(Command::Still(StillCommand::Replay(ReplayFiles { board, report })))
-    } else if word == "pic" {
+    } else if is(word, "pic") {
         let calls = third;
         Some(Command::Still(StillCommand::Pic(PicFiles { board, calls })))
     } else {
