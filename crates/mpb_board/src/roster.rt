@@ -14,7 +14,9 @@ fn push_cpus(agents: &mut Vec<Agent>, cpus: &[CpuConfig]) -> Result<(), AllocErr
     ensures { OnOk result (agents.new.items ≡ agents.old.items ++ map (λ p. Cpu p.id) cpus.now) }
 {
     for cpu in cpus {
-        agents.push(Agent::Cpu(cpu.id))?;
+        let Ok(()) = agents.push(Agent::Cpu(cpu.id)) else {
+            return Err(AllocError);
+        };
     }
     Ok(())
 }
@@ -24,7 +26,9 @@ fn push_ios(agents: &mut Vec<Agent>, n: u8) -> Result<(), AllocError>
     ensures { OnOk result (agents.new.items ≡ agents.old.items ++ map Io (range_with_len 0 n)) }
 {
     for place in 0..n {
-        agents.push(Agent::Io(place))?;
+        let Ok(()) = agents.push(Agent::Io(place)) else {
+            return Err(AllocError);
+        };
     }
     Ok(())
 }
@@ -34,7 +38,9 @@ fn push_devices(agents: &mut Vec<Agent>, n: u8) -> Result<(), AllocError>
     ensures { OnOk result (agents.new.items ≡ agents.old.items ++ map Dev (range_with_len 0 n)) }
 {
     for device in 0..n {
-        agents.push(Agent::Dev(device))?;
+        let Ok(()) = agents.push(Agent::Dev(device)) else {
+            return Err(AllocError);
+        };
     }
     Ok(())
 }
@@ -44,9 +50,15 @@ fn listed(alloc: Global, config: &Config) -> Result<Vec<Agent>, AllocError>
     ensures { IfOk result (λ agents. agents.items ≡ agents_of config.now) }
 {
     let mut agents = Vec::new(alloc);
-    push_cpus(&mut agents, config.cpus.as_slice())?;
-    push_ios(&mut agents, config.ios.len() as u8)?;
-    push_devices(&mut agents, config.devices.len() as u8)?;
+    let Ok(()) = push_cpus(&mut agents, config.cpus.as_slice()) else {
+        return Err(AllocError);
+    };
+    let Ok(()) = push_ios(&mut agents, config.ios.len() as u8) else {
+        return Err(AllocError);
+    };
+    let Ok(()) = push_devices(&mut agents, config.devices.len() as u8) else {
+        return Err(AllocError);
+    };
     Ok(agents)
 }
 

@@ -1,10 +1,10 @@
 -- The beginning: each agent of a board is there once, and none has taken the turn.
-use Rattle.std.proofs.Common.{◌≡◌, ℕ, zero, suc, ◌+◌, ◌*◌, ◌<◌, ◌≤◌, Bool, true, false, eqb, eq-eqb, List, [], ◌∷◌, ◌++◌, length, get_or, map, drop, sum_by, All, Some, refl, sym, ap, ◌∙◌, subst, arith, inl}
+use Rattle.std.proofs.Common.{◌≡◌, ℕ, zero, suc, ◌+◌, ◌*◌, ◌<◌, ◌≤◌, Bool, true, false, eqb, eq-eqb, List, [], ◌∷◌, ◌++◌, length, get_or, map, sum_by, All, Some, refl, sym, ap, ◌∙◌, subst, arith, inl}
 use mathlib.Core.Option.{some, some-injective, some-ne-none}
 use lib.ListN.{get_elem?}
 use Rattle.std.specs.List.{AllByRecursion, range_with_len}
 use Rattle.std.proofs.lemmas.Bool.Decides.{nat_tests}
-use Rattle.std.proofs.lemmas.List.{length-map, length-append, length-drop, get_or-map, get_or-drop, drop_more}
+use Rattle.std.proofs.lemmas.List.{length-map, length-append}
 use Rattle.std.proofs.lemmas.List.Elements.{All-map, All-nil}
 use Rattle.std.proofs.lemmas.List.Sums.{sum_by-cons, sum_by-append}
 use Rattle.atomic_table.specs.Table.{opening}
@@ -20,7 +20,7 @@ use Rattle.mpb_bus.specs.declared.view.SeatView.{SeatView}
 use Rattle.mpb_spec.specs.Agents.{agents_of, is_agent, IsPrefix}
 use Rattle.mpb_bus.specs.Seats.{SharedBus, AgentSeat, AreSeatsOf, fresh_seat}
 use Rattle.mpb_bus.specs.Rule.{opening_view, fresh_agent, times, AgentFits, ViewFits, IsKept, over_agents}
-use Rattle.mpb_spec.specs.Lists.{rest_of, one_if}
+use Rattle.mpb_spec.specs.Lists.{one_if}
 use Rattle.mpb_spec.proofs.Lists.{count_all, map_map, sum_map}
 use Rattle.mpb_bus.proofs.Journals.{prefix_refl}
 

@@ -50,10 +50,16 @@ impl Bus {
         ensures all { IfOk result (λ made. AreSeatsOf made.0 made.1.items) }
         ensures legal { IfOk result (λ _. IsLegal board.plan board.journal) }
     {
-        let agents = agents(alloc, board.config())?;
+        let Ok(agents) = agents(alloc, board.config()) else {
+            return Err(NoMemory);
+        };
         let _ = board.journal();
-        let (words, mut all) = open_words(alloc, board)?;
-        let seats = seats_of(alloc, &words, &mut all, agents.as_slice())?;
+        let Ok((words, mut all)) = open_words(alloc, board) else {
+            return Err(NoMemory);
+        };
+        let Ok(seats) = seats_of(alloc, &words, &mut all, agents.as_slice()) else {
+            return Err(NoMemory);
+        };
         Ok((Bus { words }, seats))
     }
 

@@ -18,7 +18,7 @@ use Rattle.mpb_bus.specs.Seats.{AgentSeat}
 use Rattle.mpb_spec.specs.Pulses.{pulse_of, pulses_in}
 use Rattle.mpb_robin.proofs.Acts.{take-more, take-drop, drop-at, at-length}
 use Rattle.mpb_spec.specs.declared.agent.Offer.TheVariants as offer
-use Rattle.mpb_crew.specs.declared.answer.Answer.TheVariants.{Quiet}
+use Rattle.mpb_crew.specs.declared.answer.Answer.TheVariants.{Made, Idle, Quiet}
 use Rattle.mpb_crew.specs.Workers.{IsSame, IsAtRest, IsDevice, IsMaking, Took}
 use Rattle.mpb_crew.proofs.Positions.{busy}
 
@@ -145,3 +145,13 @@ pub word_at : (words : List DevWord) (n : ℕ) (w d : DevWord) → n < length wo
 word_at [] n w d lt e = absurd (omega arith)
 word_at (v ∷ words) zero w d lt e = ap (λ u. Some u) e
 word_at (v ∷ words) (suc n) w d lt e = word_at words n w d (omega arith) e
+
+-- what an offer to a seat that has made nothing since comes to: nothing, or the op
+pub idle_after : (old now new : AgentSeat) → IsSame old now → now.mine ≡ old.mine → Took now offer.Next Idle new → IsSame old new × (new.mine ≡ old.mine)
+idle_after old now new same mine took = ((took.same.0 ∙ same.0, took.same.1 ∙ same.1, took.same.2 ∙ same.2), took.tells ∙ mine)
+
+pub made_after : (old now new : AgentSeat) → IsSame old now → now.mine ≡ old.mine → Took now offer.Next Made new → IsSame old new × (length new.mine ≡ length old.mine + 1)
+made_after old now new same mine took =
+    let long : length new.mine ≡ length now.mine + 1 = ap (λ (xs : List Entry). length xs) took.tells.1 ∙ length-append now.mine (took.tells.0 ∷ []) in
+    let none : length now.mine ≡ length old.mine = ap (λ (xs : List Entry). length xs) mine in
+    ((took.same.0 ∙ same.0, took.same.1 ∙ same.1, took.same.2 ∙ same.2), omega (arith, long, none))

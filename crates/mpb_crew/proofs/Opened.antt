@@ -1,5 +1,5 @@
 -- The beginning of a threaded run: what the latch is opened for, and the seats that go with the agents.
-use Rattle.std.proofs.Common.{◌≡◌, ◌+◌, ◌<◌, ◌≤◌, ◌^◌, ℕ, zero, suc, true, false, List, [], ◌∷◌, ◌++◌, length, take, map, filter_map, get_or, All, sum_by, refl, sym, ap, ◌∙◌, subst, arith, Option, None, Some}
+use Rattle.std.proofs.Common.{◌≡◌, ◌+◌, ◌-◌, ◌<◌, ◌≤◌, ◌^◌, ℕ, zero, suc, true, false, List, [], ◌∷◌, ◌++◌, length, take, drop, append_assoc, map, filter_map, get_or, All, sum_by, refl, sym, ap, ap₂, ◌∙◌, subst, arith, Option, None, Some, Result, Ok, Err, OnOk}
 use Rattle.std.specs.List.{AllByRecursion, range_with_len}
 use Rattle.std.proofs.lemmas.List.{length-map, take_all, take_more}
 use Rattle.std.proofs.lemmas.List.Elements.{All-nil, All-cons, filter_map-append}
@@ -13,8 +13,10 @@ use Rattle.mpb_spec.specs.declared.pulse.Pulse.{Pulse}
 use Rattle.mpb_spec.specs.Pulses.{IsInRange, pulse_of, pulses_in}
 use Rattle.mpb_latch.specs.Seats.{DeviceSeat, CollectorSeat, SharedLatch, fresh_device_seat, fresh_collector_seat}
 use Rattle.mpb_spec.specs.Agents.{agents_of}
-use Rattle.mpb_bus.specs.Seats.{SharedBus}
-use Rattle.mpb_crew.specs.Workers.{cols_for, devs_for}
+use Rattle.atomic_table.specs.Seated.{TableId}
+use Rattle.mpb_bus.specs.Seats.{AgentSeat, SharedBus, fresh_seat}
+use Rattle.mpb_crew.specs.declared.worker.Part.{Part}
+use Rattle.mpb_crew.specs.Workers.{cols_for, devs_for, fresh_part, fresh_worker}
 use Rattle.mpb_crew.proofs.Members.{io_places, device_numbers, by_number}
 
 -- ---- plans
@@ -86,6 +88,39 @@ devs_open latch bus agents devs are plans so =
     ∙ sym (ap (λ gs. devs_for latch.latch bus.plan gs) are
     ∙ (ap (λ ns. map (λ d. fresh_device_seat latch.latch (pulses_in (get_or bus.plan.devices d []))) ns) (device_numbers bus.plan)
     ∙ by_number (λ ws. fresh_device_seat latch.latch (pulses_in ws)) [] bus.plan.devices))))
+
+-- ---- the first agent, and the rest
+
+pub first_of_rest : {X : Type 0} (xs : List X) (d : X) → 1 ≤ length xs → xs ≡ get_or xs 0 d ∷ take (length xs - 1) (drop 1 xs)
+first_of_rest [] d some = absurd (omega arith)
+first_of_rest {X} (x ∷ xs) d some = ap (λ (ys : List X). x ∷ ys) (sym (take_all (suc (length xs) - 1) xs (omega arith)))
+
+-- what is made of the first, and of the rest
+pub first_made : {X Y : Type 0} (f : X → Y) (xs : List X) (d : X) (y : Y) (rest : List Y) → 1 ≤ length xs → y ∷ rest ≡ map f xs → y ≡ f (get_or xs 0 d)
+first_made f [] d y rest some e = absurd (omega arith)
+first_made f (x ∷ xs) d y rest some e = cc
+
+pub rest_made : {X Y : Type 0} (f : X → Y) (xs : List X) (y : Y) (rest : List Y) → 1 ≤ length xs → y ∷ rest ≡ map f xs → rest ≡ map f (take (length xs - 1) (drop 1 xs))
+rest_made f [] y rest some e = absurd (omega arith)
+rest_made {X} {Y} f (x ∷ xs) y rest some e =
+    let others : rest ≡ map f xs = cc in
+    others ∙ ap (λ (zs : List X). map f zs) (sym (take_all (suc (length xs) - 1) xs (omega arith)))
+
+-- the first is pushed, and then the rest
+pub pushed_first : {X Y A E : Type 0} (f : X → Y) (xs : List X) (d : X) (y : Y) (old now new : List Y) (r : Result A E) → 1 ≤ length xs → y ≡ f (get_or xs 0 d) → now ≡ old ++ y ∷ []
+    → OnOk r (new ≡ now ++ map f (take (length xs - 1) (drop 1 xs))) → OnOk r (new ≡ old ++ map f xs)
+pushed_first f xs d y old now new (Err e) some is grows then = tt
+pushed_first {X} {Y} f xs d y old now new (Ok a) some is grows then =
+    let rest = map f (take (length xs - 1) (drop 1 xs)) in
+    then
+    ∙ ap (λ (l : List Y). l ++ rest) grows
+    ∙ append_assoc old (y ∷ []) rest
+    ∙ ap (λ (z : Y). old ++ z ∷ rest) is
+    ∙ ap (λ (l : List X). old ++ map f l) (sym (first_of_rest xs d some))
+
+-- a worker that is made of its parts
+pub worker_made : (bus latch : TableId) (c : Plan) (g : Agent) (seat : AgentSeat) (part : Part) → seat ≡ fresh_seat bus c [] g → part ≡ fresh_part latch c g → record { agent = g; bus = seat; part = part } ≡ fresh_worker bus latch c g
+worker_made bus latch c g seat part is beside = ap₂ (λ (s : AgentSeat) (p : Part). record { agent = g; bus = s; part = p }) is beside
 
 -- ---- at the top
 

@@ -73,10 +73,18 @@ impl Latch {
         let Ok(collected) = Vec::with_capacity(alloc, usize::from(ios)) else {
             return Err(NoMemory);
         };
-        let copy = copied(alloc, plans)?;
-        let (table, mut all) = open_words(alloc, ios, &copy)?;
-        let seats = device_seats(alloc, &table, &mut all, plans)?;
-        let cols = collector_seats(alloc, &table, &mut all, ios, &copy)?;
+        let Ok(copy) = copied(alloc, plans) else {
+            return Err(NoMemory);
+        };
+        let Ok((table, mut all)) = open_words(alloc, ios, &copy) else {
+            return Err(NoMemory);
+        };
+        let Ok(seats) = device_seats(alloc, &table, &mut all, plans) else {
+            return Err(NoMemory);
+        };
+        let Ok(cols) = collector_seats(alloc, &table, &mut all, ios, &copy) else {
+            return Err(NoMemory);
+        };
         Ok((
             Latch {
                 table,

@@ -6,7 +6,7 @@ ghost use Rattle.std.specs.Prelude.{◌≡◌, ◌⊎◌, ◌<◌, Some, None, I
 ghost use Rattle.mpb_spec.specs.Plan.{first_processor};
 ghost use Rattle.mpb_spec.specs.State.{Processor, runs, is_through};
 ghost use Rattle.mpb_spec.specs.Delivery.{received, answer, is_named, is_ready, life_after_init, init_outcome, life_after_startup, startup_outcome, outcome_of_accept};
-ghost use Rattle.mpb_spec.specs.Steps.{op_of_processor, with_apic};
+ghost use Rattle.mpb_spec.specs.Steps.{op_of_processor, unless_waiting, with_apic};
 ghost use Rattle.mpb_spec.specs.LocalApic.{taken, next_vector, ended, after_end};
 ghost use Rattle.mpb_spec.specs.Ranks.{rank_of, is_chosen};
 
@@ -79,13 +79,27 @@ fn startup(page: u8, life: Life) -> (Life, What)
     }
 }
 
+// the op of a processor, but that it waits at a `Take` until its local APIC has a vector
+fn unless_waiting(apic: &Lapic, op: Op) -> Option<Op>
+    ensures { result ≡ unless_waiting apic.now (Some op) }
+{
+    match op {
+        Op::Take => match apic.next() {
+            Some(_) => Some(Op::Take),
+            None => None,
+        },
+        _ => Some(op),
+    }
+}
+
 impl Cpu {
     /// A processor at its start; `boot` is the id of the boot processor.
     pub fn new(alloc: Global, config: &CpuConfig, boot: u8) -> Result<Cpu, AllocError>
         ensures { IfOk result (λ p. p ≡ first_processor boot config.now) }
     {
-        let mut program = Vec::new(alloc);
-        program.extend_from_slice(config.program.as_slice())?;
+        let Ok(program) = Vec::from_slice(alloc, config.program.as_slice()) else {
+            return Err(AllocError);
+        };
         let life = if config.id == boot {
             Life::First
         } else {
@@ -149,24 +163,17 @@ impl Cpu {
         ensures state { self.new ≡ received warm delivery self.old }
         ensures outcome { result ≡ answer warm delivery self.old }
     {
+        let awake = runs(self.life);
         match delivery {
             Delivery::Fixed(vector, level) => {
-                if runs(self.life) {
+                if awake {
                     outcome_of(self.apic.accept(vector, level))
                 } else {
                     What::Asleep
                 }
             }
-            Delivery::Nmi => if runs(self.life) {
-                What::Nmi
-            } else {
-                What::Asleep
-            },
-            Delivery::Pass => if runs(self.life) {
-                What::Passed
-            } else {
-                What::Asleep
-            },
+            Delivery::Nmi => if awake { What::Nmi } else { What::Asleep },
+            Delivery::Pass => if awake { What::Passed } else { What::Asleep },
             Delivery::Init => {
                 let (life, outcome) = init(warm, self.version, self.life);
                 self.life = life;
@@ -188,11 +195,7 @@ impl Cpu {
             return None;
         }
         match self.program.get(self.position) {
-            Some(Op::Take) => match self.apic.next() {
-                Some(_) => Some(Op::Take),
-                None => None,
-            },
-            Some(op) => Some(*op),
+            Some(op) => unless_waiting(&self.apic, *op),
             None => None,
         }
     }

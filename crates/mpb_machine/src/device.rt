@@ -2,7 +2,7 @@
 
 ghost use Rattle.std.specs.Prelude.{◌≡◌, ◌<◌, Some, IfOk, suc, length, nat_le};
 ghost use Rattle.mpb_spec.specs.Plan.{first_device, op_of_word};
-ghost use Rattle.mpb_spec.specs.Steps.{op_of_device};
+ghost use Rattle.mpb_spec.specs.Steps.{op_of_device, unless_early};
 
 use mpb_spec::{DevWord, Op};
 use std::alloc::{AllocError, Global};
@@ -34,19 +34,35 @@ fn op_of_word(word: DevWord) -> Option<Op>
     }
 }
 
+// the op of a device, but that it begins only where the boot program is through
+fn unless_early(through: bool, op: Op) -> Option<Op>
+    ensures { result ≡ unless_early through (Some op) }
+{
+    match op {
+        Op::Begin => if through { Some(Op::Begin) } else { None },
+        _ => Some(op),
+    }
+}
+
 impl Dev {
     /// A device at its start, with these words.
     pub fn new(alloc: Global, words: &[DevWord]) -> Result<Dev, AllocError>
         ensures { IfOk result (λ d. d ≡ first_device words.now) }
     {
         let mut program = Vec::new(alloc);
-        program.push(Op::Begin)?;
+        let Ok(()) = program.push(Op::Begin) else {
+            return Err(AllocError);
+        };
         for word in words {
             if let Some(op) = op_of_word(*word) {
-                program.push(op)?;
+                let Ok(()) = program.push(op) else {
+                    return Err(AllocError);
+                };
             }
         }
-        program.push(Op::End)?;
+        let Ok(()) = program.push(Op::End) else {
+            return Err(AllocError);
+        };
         Ok(Dev {
             program,
             position: 0,
@@ -58,8 +74,7 @@ impl Dev {
         ensures { result ≡ op_of_device through (Some self.now) }
     {
         match self.program.get(self.position) {
-            Some(Op::Begin) => if through { Some(Op::Begin) } else { None },
-            Some(op) => Some(*op),
+            Some(op) => unless_early(through, *op),
             None => None,
         }
     }

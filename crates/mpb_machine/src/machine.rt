@@ -67,9 +67,15 @@ impl Machine {
         requires { plan_size config.now < 2 ^ 32 }
         ensures { IfOk result (λ m. m ≡ initial_state_of config.now) }
     {
-        let cpus = cpus_of(alloc, config.cpus.as_slice(), config.boot)?;
-        let places = places_of(alloc, config.ios.as_slice(), config.devices.as_slice())?;
-        let devices = devices_of(alloc, config.devices.as_slice())?;
+        let Ok(cpus) = cpus_of(alloc, config.cpus.as_slice(), config.boot) else {
+            return Err(AllocError);
+        };
+        let Ok(places) = places_of(alloc, config.ios.as_slice(), config.devices.as_slice()) else {
+            return Err(AllocError);
+        };
+        let Ok(devices) = devices_of(alloc, config.devices.as_slice()) else {
+            return Err(AllocError);
+        };
         Ok(Machine {
             cpus,
             places,

@@ -37,44 +37,45 @@ pub fn make_cpu(m: &mut Machine, id: u8, op: Op) -> Outcomes
     ensures state { m.new ≡ effect_of_cpu id op m.old }
     ensures outcomes { result.items ≡ outcomes_of_cpu id op m.old }
 {
-    match op {
+    let what = match op {
+        Op::Init(dest) => return m.deliver(to_id(dest), Delivery::Init),
+        Op::Startup(dest, page) => return m.deliver(to_id(dest), Delivery::Startup(page)),
+        Op::Ipi(dest, vector) => return m.deliver(to_id(dest), Delivery::Fixed(vector, false)),
+        Op::Ipl(dest, vector) => return m.deliver(to_logical(dest), Delivery::Fixed(vector, false)),
+        Op::Nmi(dest) => return m.deliver(to_id(dest), Delivery::Nmi),
+        Op::Check(dest) => return tell(dest, m.check(dest)),
         Op::Imcr => {
             m.set_imcr();
-            tell(0, What::Done)
+            What::Done
         }
         Op::Warm(page) => {
             m.set_warm(page);
-            tell(0, What::Done)
+            What::Done
         }
-        Op::Init(dest) => m.deliver(to_id(dest), Delivery::Init),
-        Op::Startup(dest, page) => m.deliver(to_id(dest), Delivery::Startup(page)),
-        Op::Check(dest) => tell(dest, m.check(dest)),
-        Op::Ipi(dest, vector) => m.deliver(to_id(dest), Delivery::Fixed(vector, false)),
-        Op::Ipl(dest, vector) => { m.deliver(to_logical(dest), Delivery::Fixed(vector, false)) }
-        Op::Nmi(dest) => m.deliver(to_id(dest), Delivery::Nmi),
-        Op::Take => tell(0, m.take(id)),
-        Op::Poll => tell(0, m.take(id)),
-        Op::Eoi => tell(0, m.end(id)),
+        Op::Take => m.take(id),
+        Op::Poll => m.take(id),
+        Op::Eoi => m.end(id),
         Op::Tpr(priority) => {
             m.set_tpr(id, priority);
-            tell(0, What::Done)
+            What::Done
         }
         Op::Ldr(destination) => {
             m.set_ldr(id, destination);
-            tell(0, What::Done)
+            What::Done
         }
         Op::Dfr(model) => {
             m.set_dfr(id, model);
-            tell(0, What::Done)
+            What::Done
         }
         Op::IoSel(at, index) => {
             m.select(at, index);
-            tell(0, What::Done)
+            What::Done
         }
-        Op::IoWin(at, value) => tell(0, m.write(at, value)),
-        Op::IoRead(at) => tell(0, m.read(at)),
-        _ => tell(0, What::Done),
-    }
+        Op::IoWin(at, value) => m.write(at, value),
+        Op::IoRead(at) => m.read(at),
+        _ => What::Done,
+    };
+    tell(0, what)
 }
 
 /// An op of a device, but for its position.

@@ -1,17 +1,22 @@
 -- A board that advances, and the run that it is part of.
-use Rattle.std.proofs.Common.{◌≡◌, Bool, true, false, List, [], ◌∷◌, ◌++◌, refl, sym, ap, ◌∙◌, Option, None, Some, is_some, MatchBool}
+use Rattle.std.proofs.Common.{◌≡◌, Bool, true, false, List, [], ◌∷◌, ◌++◌, refl, sym, ap, ap₂, ◌∙◌, ℕ, Option, None, Some, is_some, MatchBool}
 use Rattle.mpb_spec.specs.declared.agent.Agent.{Agent}
 use Rattle.mpb_spec.specs.declared.agent.Offer.{Offer}
 use Rattle.mpb_spec.specs.declared.agent.Op.{Op}
 use Rattle.mpb_spec.specs.declared.entry.Entry.{Entry}
 use Rattle.mpb_spec.specs.declared.entry.Outcome.{Outcome}
+use Rattle.std.specs.Int.{bit_at}
+use Rattle.mpb_spec.specs.declared.pulse.Pulse.{Pulse}
+use Rattle.mpb_spec.specs.declared.pulse.Hit.{Hit}
+use Rattle.mpb_spec.specs.Pulses.{hit_of}
+use Rattle.mpb_spec.specs.PlainLatch.{PlainState, pins_at, pulsed}
 use Rattle.mpb_spec.specs.Steps.{next_op}
 use Rattle.mpb_spec.specs.Outcomes.{outcomes_of}
-use Rattle.mpb_spec.specs.State.{BoardState}
+use Rattle.mpb_spec.specs.State.{BoardState, change_at}
 use Rattle.mpb_spec.specs.May.{MayStep}
 use Rattle.mpb_spec.specs.Plan.{Plan}
 use Rattle.mpb_board.specs.BoardView.{BoardView, state_of, Grows}
-use Rattle.mpb_robin.specs.RoundRobin.{Run, state_in, entry_of, with_op_of, with_step}
+use Rattle.mpb_robin.specs.RoundRobin.{Run, state_in, entry_of, with_op_of, with_pulse, with_step}
 
 -- what the call answers
 abbrev pub Advanced : BoardView → Agent → Offer → Bool → BoardView → Type 0
@@ -46,3 +51,10 @@ run_advanced r new g f false m = ap (λ (b : BoardView). with_board b r) m.0 ∙
   go : (o : Option Op) → next_op (state_in r) g f ≡ o → r ≡ with_op_of g o r
   go None w = refl
   go (Some o) w = absurd (m.1 (o, w))
+
+-- a pulse, in the latch and in the log
+pub run_pulsed : (r s : Run) (d : ℕ) (p : Pulse) (latch : PlainState) (h : Hit) (logs : List (List (Pulse × Hit))) → r ≡ s → latch ≡ pulsed p r.latch → h ≡ hit_of (bit_at (pins_at p.io r.latch) p.pin)
+    → logs ≡ change_at d (λ log. log ++ (p, h) ∷ []) r.logs → record r { latch = latch; logs = logs } ≡ with_pulse d p s
+run_pulsed r s d p latch h logs same now hit told =
+    ap₂ (λ (l : PlainState) (ls : List (List (Pulse × Hit))). record r { latch = l; logs = ls }) now (told ∙ ap (λ (k : Hit). change_at d (λ log. log ++ (p, k) ∷ []) r.logs) hit)
+    ∙ ap (λ (q : Run). with_pulse d p q) same

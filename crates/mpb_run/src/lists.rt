@@ -50,9 +50,15 @@ pub(crate) fn nothing_kept(alloc: Global, config: &Config) -> Result<Kept, Alloc
     ensures room { IfOk result (λ kept. map (λ l. vec_capacity l) kept.1.items ≡ map (λ words. length words) config.now.devices) }
     ensures counts { IfOk result (λ kept. map (λ l. l.items) kept.2.items ≡ replicate (length config.now.ios) (replicate 24 0)) }
 {
-    let made = none_made(alloc, config.devices.len())?;
-    let logs = no_logs(alloc, config.devices.as_slice())?;
-    let counts = no_counts(alloc, config.ios.len())?;
+    let Ok(made) = none_made(alloc, config.devices.len()) else {
+        return Err(AllocError);
+    };
+    let Ok(logs) = no_logs(alloc, config.devices.as_slice()) else {
+        return Err(AllocError);
+    };
+    let Ok(counts) = no_counts(alloc, config.ios.len()) else {
+        return Err(AllocError);
+    };
     Ok((made, logs, counts))
 }
 
@@ -70,7 +76,12 @@ fn no_logs(alloc: Global, devices: &[Vec<DevWord>]) -> Result<Vec<Vec<(Pulse, Hi
 {
     let mut logs = Vec::new(alloc);
     for words in devices {
-        logs.push(Vec::with_capacity(alloc, words.len())?)?;
+        let Ok(log) = Vec::with_capacity(alloc, words.len()) else {
+            return Err(AllocError);
+        };
+        let Ok(()) = logs.push(log) else {
+            return Err(AllocError);
+        };
     }
     Ok(logs)
 }
@@ -81,7 +92,12 @@ fn no_counts(alloc: Global, n: usize) -> Result<Vec<Vec<u32>>, AllocError>
 {
     let mut counts = Vec::new(alloc);
     for _ in 0..n {
-        counts.push(vec![in alloc; 0; usize::from(PINS)]?)?;
+        let Ok(pins) = vec![in alloc; 0; usize::from(PINS)] else {
+            return Err(AllocError);
+        };
+        let Ok(()) = counts.push(pins) else {
+            return Err(AllocError);
+        };
     }
     Ok(counts)
 }

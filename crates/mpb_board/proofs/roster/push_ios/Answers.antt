@@ -9,7 +9,7 @@ use Rattle.mpb_board.proofs.roster.push_ios.Goals as goal
 pub loop-place-preserved : goal.loop-place-preserved
 loop-place-preserved c =
     let n = c.loop-place.place in
-    c.in_ok-push.ensures.items
+    c.in-Ok.ensures.items
     ∙ ap (λ (xs : List Agent). xs ++ Io n ∷ []) c.loop-place.invariant
     ∙ append_assoc c.args.agents.now.items (map Io (range_with_len 0 n)) (Io n ∷ [])
     ∙ ap (λ (xs : List Agent). c.args.agents.now.items ++ xs) (sym (map-range_with_len_more Io 0 n n (omega arith)))

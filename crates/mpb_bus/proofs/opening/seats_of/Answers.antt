@@ -1,5 +1,5 @@
-use Rattle.std.proofs.Common.{◌++◌, ◌∷◌, [], List, map, take, get_or, sym, ap, ◌∙◌, arith}
-use Rattle.std.proofs.lemmas.List.{length-map, get_or_default}
+use Rattle.std.proofs.Common.{◌++◌, ◌∷◌, [], List, map, take, take_all, get_or, sym, ap, ◌∙◌, arith}
+use Rattle.std.proofs.lemmas.List.{length-map, get_or_default, take-map}
 use Rattle.mpb_spec.specs.declared.agent.Agent.TheVariants.{Cpu}
 use Rattle.mpb_bus.specs.declared.view.AgentView.{AgentView}
 use Rattle.mpb_bus.specs.Seats.{AgentSeat, fresh_seat}
@@ -32,3 +32,11 @@ loop-agent-preserved c =
           ∙ ap (λ (s : AgentSeat). take i (map (fresh_seat bus start.plan start.journal) agents) ++ s ∷ []) seat
           ∙ sym (map_one_more (fresh_seat bus start.plan start.journal) agents i agent t here),
     )
+
+pub returns : goal.returns
+returns c =
+    let agents = c.args.agents.now in
+    let i = c.loop-agent.agent-index in
+    let start = c.args.words.now.shared.key.value in
+    let seat = fresh_seat c.args.words.now.shared.table_id start.plan start.journal in
+    c.loop-agent.invariant.3 ∙ take-map seat i agents ∙ ap (map seat) (take_all i agents c.loop-agent-test.false)

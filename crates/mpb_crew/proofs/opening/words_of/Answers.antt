@@ -1,5 +1,5 @@
-use Rattle.std.proofs.Common.{◌≡◌, ◌++◌, ◌∷◌, [], List, map, take, sym, ap, ◌∙◌}
-use Rattle.std.proofs.lemmas.List.{map-append}
+use Rattle.std.proofs.Common.{◌≡◌, ◌++◌, ◌∷◌, [], List, map, take, take_all, sym, ap, ◌∙◌}
+use Rattle.std.proofs.lemmas.List.{map-append, take-map}
 use Rattle.mpb_spec.specs.declared.config.DevWord.{DevWord}
 use Rattle.mpb_spec.proofs.Lists.{map_one_more}
 use Rattle.mpb_crew.proofs.opening.words_of.Goals as goal
@@ -16,3 +16,9 @@ loop-words-preserved c =
     ∙ ap (λ (l : List (List DevWord)). l ++ made.items ∷ []) c.loop-words.invariant
     ∙ ap (λ (x : List DevWord). take i (map (λ p. p.items) devices) ++ x ∷ []) same
     ∙ sym (map_one_more (λ p. p.items) devices i words c.loop-words-test.true c.words-item.is)
+
+pub returns : goal.returns
+returns c =
+    let i = c.loop-words.words-index in
+    let devices = c.args.devices.now in
+    c.loop-words.invariant ∙ take-map (λ p. p.items) i devices ∙ ap (λ l. map (λ p. p.items) l) (take_all i devices c.loop-words-test.false)

@@ -1,5 +1,5 @@
-use Rattle.std.proofs.Common.{◌≡◌, ◌++◌, ◌∷◌, [], List, map, take, sym, ap, ◌∙◌}
-use Rattle.std.proofs.lemmas.List.{map-append}
+use Rattle.std.proofs.Common.{◌≡◌, ◌++◌, ◌∷◌, [], List, map, take, take_all, sym, ap, ◌∙◌}
+use Rattle.std.proofs.lemmas.List.{map-append, take-map}
 use Rattle.mpb_spec.specs.declared.pulse.Pulse.{Pulse}
 use Rattle.mpb_spec.proofs.Lists.{map_one_more}
 use Rattle.mpb_latch.proofs.opening.copied.Goals as goal
@@ -16,3 +16,9 @@ loop-plan-preserved c =
     ∙ ap (λ (l : List (List Pulse)). l ++ pulses.items ∷ []) c.loop-plan.invariant
     ∙ ap (λ (x : List Pulse). take i (map (λ p. p.items) plans) ++ x ∷ []) same
     ∙ sym (map_one_more (λ p. p.items) plans i plan c.loop-plan-test.true c.plan-item.is)
+
+pub returns : goal.returns
+returns c =
+    let i = c.loop-plan.plan-index in
+    let plans = c.args.plans.now in
+    c.loop-plan.invariant ∙ take-map (λ p. p.items) i plans ∙ ap (λ l. map (λ p. p.items) l) (take_all i plans c.loop-plan-test.false)

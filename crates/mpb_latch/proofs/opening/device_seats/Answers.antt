@@ -1,5 +1,5 @@
-use Rattle.std.proofs.Common.{◌++◌, ◌∷◌, ◌+◌, ◌<◌, [], ℕ, List, Vec, Global, All, length, map, take, get_or, sym, ap, ◌∙◌, subst, arith}
-use Rattle.std.proofs.lemmas.List.{length-map}
+use Rattle.std.proofs.Common.{◌++◌, ◌∷◌, ◌+◌, ◌<◌, [], ℕ, List, Vec, Global, All, length, map, take, take_all, get_or, refl, sym, ap, ◌∙◌, subst, arith}
+use Rattle.std.proofs.lemmas.List.{drop_all, length-map, take-map}
 use Rattle.atomic_table.specs.Seated.{TableId}
 use Rattle.mpb_latch.specs.declared.view.DeviceView.{DeviceView}
 use Rattle.mpb_latch.specs.Seats.{DeviceSeat, fresh_device_seat}
@@ -52,3 +52,26 @@ loop-plan-preserved c =
           ∙ ap (λ (s : DeviceSeat). take i (map (λ p. fresh_device_seat id p.items) plans) ++ s ∷ []) seat
           ∙ sym (map_one_more (λ p. fresh_device_seat id p.items) plans i plan t c.plan-item.is),
     )
+
+pub loop-plan-init : goal.loop-plan-init
+loop-plan-init c =
+    let start = c.args.all.now.me in (
+      refl,
+      ap (λ (l : List DeviceView). (record { devices = l; collectors = start.0.collectors }, start.1)) c.requires.all,
+      c.in-Ok.ensures.items,
+    )
+
+pub returns-clause-all : goal.returns-clause-all
+returns-clause-all c =
+    let plans = c.args.plans.now in
+    let start = c.args.all.now.me in
+    let inv = c.loop-plan.invariant in
+    let long = length-map plans (λ p. fresh_device p.items) in
+    (inv.0, inv.1 ∙ ap (λ (l : List DeviceView). (record { devices = l; collectors = start.0.collectors }, start.1)) (drop_all c.loop-plan.plan-index (map (λ p. fresh_device p.items) plans) (omega (arith, long, c.loop-plan-test.false))))
+
+pub returns-clause-seats : goal.returns-clause-seats
+returns-clause-seats c =
+    let plans = c.args.plans.now in
+    let i = c.loop-plan.plan-index in
+    let seat = λ (p : Vec Pulse Global). fresh_device_seat c.args.table.now.shared.table_id p.items in
+    c.loop-plan.invariant.2 ∙ take-map seat i plans ∙ ap (map seat) (take_all i plans c.loop-plan-test.false)
