@@ -1,6 +1,6 @@
 //! The lines of processors, each read from the left.
 
-ghost use Rattle.std.specs.Prelude.{◌≡◌, IfSome, IfNone, IfOk};
+ghost use Rattle.std.specs.Prelude.{◌≡◌, [], IfSome, IfNone, IfOk};
 ghost use Rattle.mpt_line.specs.Reading.{Gives, field_in, after, both};
 ghost use Rattle.mpt_line.specs.Lines.{BeginsWith, BeginsWithNone};
 ghost use Rattle.mpb_report_line.specs.Lines.{cpu_text};
@@ -32,21 +32,20 @@ fn read_cpu(alloc: Global, line: &[u8]) -> Result<Option<(CpuLine, &[u8])>, Allo
     let Some(((id, life, tpr), rest)) = read_head(line) else {
         return Ok(None);
     };
-    match read_registers(alloc, rest) {
-        Ok(Some(read)) => {
-            let ((irr, isr, tmr), rest) = read;
-            Ok(Some((
-                CpuLine {
-                    id,
-                    life,
-                    tpr,
-                    irr,
-                    isr,
-                    tmr,
-                },
-                rest,
-            )))
-        }
+    let mut irr = Vec::new(alloc);
+    let mut isr = Vec::new(alloc);
+    let mut tmr = Vec::new(alloc);
+    let read = read_registers(&mut irr, &mut isr, &mut tmr, rest);
+    let cpu = CpuLine {
+        id,
+        life,
+        tpr,
+        irr: Sequence::new(irr),
+        isr: Sequence::new(isr),
+        tmr: Sequence::new(tmr),
+    };
+    match read {
+        Ok(Some(rest)) => Ok(Some((cpu, rest))),
         Ok(None) => Ok(None),
         Err(error) => Err(error),
     }
@@ -92,30 +91,32 @@ fn read_life(line: &[u8]) -> Option<(Life, &[u8])>
     Some((Life::Started(page), rest))
 }
 
-// the vectors that are requested, in service and level-triggered, to the end of the line
+// the vectors that are requested, in service and level-triggered, each into an empty list, to the end of
+// the line
 #[tactic(auto, unfolding(crate::specs::Forms::registers_in))]
-fn read_registers(
-    alloc: Global,
-    line: &[u8],
-) -> Result<Option<((Sequence<u8>, Sequence<u8>, Sequence<u8>), &[u8])>, AllocError>
-    ensures { IfOk result (λ o. Gives (λ x. ((x.0.0, (x.0.1, x.0.2)), x.1.now)) o (registers_in line.now)) }
+fn read_registers<'a>(
+    irr: &mut Vec<u8>,
+    isr: &mut Vec<u8>,
+    tmr: &mut Vec<u8>,
+    line: &'a [u8],
+) -> Result<Option<&'a [u8]>, AllocError>
+    requires irr { irr.old.items ≡ [] }
+    requires isr { isr.old.items ≡ [] }
+    requires tmr { tmr.old.items ≡ [] }
+    ensures { IfOk result (λ o. Gives (λ rest. ((irr.new.items, (isr.new.items, tmr.new.items)), rest.now)) o (registers_in line.now)) }
 {
     let Some(rest) = read_part(line, b" irr ") else {
         return Ok(None);
     };
-    let (irr, rest) = match read_vectors(alloc, rest, b" isr ") {
-        Ok(Some(read)) => read,
+    let rest = match read_vectors(irr, rest, b" isr ") {
+        Ok(Some(rest)) => rest,
         Ok(None) => return Ok(None),
         Err(error) => return Err(error),
     };
-    let (isr, rest) = match read_vectors(alloc, rest, b" tmr ") {
-        Ok(Some(read)) => read,
+    let rest = match read_vectors(isr, rest, b" tmr ") {
+        Ok(Some(rest)) => rest,
         Ok(None) => return Ok(None),
         Err(error) => return Err(error),
     };
-    match read_vectors(alloc, rest, b"\n") {
-        Ok(Some((tmr, rest))) => Ok(Some(((irr, isr, tmr), rest))),
-        Ok(None) => Ok(None),
-        Err(error) => Err(error),
-    }
+    read_vectors(tmr, rest, b"\n")
 }
