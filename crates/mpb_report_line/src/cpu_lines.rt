@@ -29,25 +29,29 @@ pub fn read_cpu_line(alloc: Global, text: &[u8]) -> Result<Option<(CpuLine, &[u8
 fn read_cpu(alloc: Global, line: &[u8]) -> Result<Option<(CpuLine, &[u8])>, AllocError>
     ensures { IfOk result (λ o. Gives (λ x. (x.0, x.1.now)) o (cpu_in line.now)) }
 {
-    let Some(((id, life, tpr), rest)) = read_head(line) else {
+    let Some((head, rest)) = read_head(line) else {
         return Ok(None);
     };
-    let mut irr = Vec::new(alloc);
-    let mut isr = Vec::new(alloc);
-    let mut tmr = Vec::new(alloc);
-    let read = read_registers(&mut irr, &mut isr, &mut tmr, rest);
-    let cpu = CpuLine {
+    let mut lists = (Vec::new(alloc), Vec::new(alloc), Vec::new(alloc));
+    match read_registers(&mut lists, rest) {
+        Ok(Some(rest)) => Ok(Some((cpu_line(head, lists), rest))),
+        Ok(None) => Ok(None),
+        Err(error) => Err(error),
+    }
+}
+
+fn cpu_line(head: (u8, Life, u8), lists: (Vec<u8>, Vec<u8>, Vec<u8>)) -> CpuLine
+    ensures { result ≡ record { id = head.0; life = head.1; tpr = head.2; irr = lists.0.items; isr = lists.1.items; tmr = lists.2.items } }
+{
+    let (id, life, tpr) = head;
+    let (irr, isr, tmr) = lists;
+    CpuLine {
         id,
         life,
         tpr,
         irr: Sequence::new(irr),
         isr: Sequence::new(isr),
         tmr: Sequence::new(tmr),
-    };
-    match read {
-        Ok(Some(rest)) => Ok(Some((cpu, rest))),
-        Ok(None) => Ok(None),
-        Err(error) => Err(error),
     }
 }
 
@@ -95,28 +99,26 @@ fn read_life(line: &[u8]) -> Option<(Life, &[u8])>
 // the line
 #[tactic(auto, unfolding(crate::specs::Forms::registers_in))]
 fn read_registers<'a>(
-    irr: &mut Vec<u8>,
-    isr: &mut Vec<u8>,
-    tmr: &mut Vec<u8>,
+    lists: &mut (Vec<u8>, Vec<u8>, Vec<u8>),
     line: &'a [u8],
 ) -> Result<Option<&'a [u8]>, AllocError>
-    requires irr { irr.old.items ≡ [] }
-    requires isr { isr.old.items ≡ [] }
-    requires tmr { tmr.old.items ≡ [] }
-    ensures { IfOk result (λ o. Gives (λ rest. ((irr.new.items, (isr.new.items, tmr.new.items)), rest.now)) o (registers_in line.now)) }
+    requires irr { lists.old.0.items ≡ [] }
+    requires isr { lists.old.1.items ≡ [] }
+    requires tmr { lists.old.2.items ≡ [] }
+    ensures { IfOk result (λ o. Gives (λ rest. ((lists.new.0.items, (lists.new.1.items, lists.new.2.items)), rest.now)) o (registers_in line.now)) }
 {
     let Some(rest) = read_part(line, b" irr ") else {
         return Ok(None);
     };
-    let rest = match read_vectors(irr, rest, b" isr ") {
+    let rest = match read_vectors(&mut lists.0, rest, b" isr ") {
         Ok(Some(rest)) => rest,
         Ok(None) => return Ok(None),
         Err(error) => return Err(error),
     };
-    let rest = match read_vectors(isr, rest, b" tmr ") {
+    let rest = match read_vectors(&mut lists.1, rest, b" tmr ") {
         Ok(Some(rest)) => rest,
         Ok(None) => return Ok(None),
         Err(error) => return Err(error),
     };
-    read_vectors(tmr, rest, b"\n")
+    read_vectors(&mut lists.2, rest, b"\n")
 }
