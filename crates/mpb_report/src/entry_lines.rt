@@ -16,7 +16,9 @@ pub(crate) fn push_entry_lines(out: &mut Vec<u8>, journal: &[Entry]) -> Result<(
     ensures { OnOk result (out.new.items ≡ out.old.items ++ concat (numbered entry_line 0 journal.now)) }
 {
     for number in 0..journal.len() {
-        push_entry_line(out, number as u64, &journal[number])?;
+        if let Err(error) = push_entry_line(out, number as u64, &journal[number]) {
+            return Err(error);
+        }
     }
     Ok(())
 }
@@ -207,7 +209,9 @@ fn push_outcomes(out: &mut Vec<u8>, outcomes: &[Outcome]) -> Result<(), AllocErr
     ensures { OnOk result (out.new.items ≡ out.old.items ++ flat_map further_outcome outcomes.now) }
 {
     for outcome in outcomes {
-        push_further_outcome(out, *outcome)?;
+        if let Err(error) = push_further_outcome(out, *outcome) {
+            return Err(error);
+        }
     }
     Ok(())
 }
@@ -216,12 +220,15 @@ fn push_outcomes(out: &mut Vec<u8>, outcomes: &[Outcome]) -> Result<(), AllocErr
 fn push_further_outcome(out: &mut Vec<u8>, outcome: Outcome) -> Result<(), AllocError>
     ensures { OnOk result (out.new.items ≡ out.old.items ++ further_outcome outcome) }
 {
-    if has_target(outcome.what) {
-        push_target(out, outcome.at as u64)?;
+    let begun = if has_target(outcome.what) {
+        push_target(out, outcome.at as u64)
     } else {
-        out.push(b' ')?;
+        push_text(out, b" ")
+    };
+    match begun {
+        Ok(()) => push_what(out, outcome.what),
+        Err(error) => Err(error),
     }
-    push_what(out, outcome.what)
 }
 
 // a target, in one piece
