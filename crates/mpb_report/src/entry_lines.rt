@@ -16,7 +16,9 @@ pub(crate) fn push_entry_lines(out: &mut Vec<u8>, journal: &[Entry]) -> Result<(
     ensures { OnOk result (out.new.items ≡ out.old.items ++ concat (numbered entry_line 0 journal.now)) }
 {
     for number in 0..journal.len() {
-        push_entry_line(out, number as u64, &journal[number])?;
+        if let Err(error) = push_entry_line(out, number as u64, &journal[number]) {
+            return Err(error);
+        }
     }
     Ok(())
 }
@@ -63,14 +65,14 @@ fn push_agent(out: &mut Vec<u8>, agent: Agent) -> Result<(), AllocError>
     ensures { OnOk result (out.new.items ≡ out.old.items ++ (codes " " ++ (agent_text agent ++ codes " "))) }
 {
     match agent {
-        Agent::Cpu(id) => push_cpu(out, id as u64),
-        Agent::Io(place) => push_place(out, b" io ", place as u64),
-        Agent::Dev(number) => push_place(out, b" dev ", number as u64),
+        Agent::Cpu(id) => push_cpu(out, id),
+        Agent::Io(place) => push_place(out, b" io ", place),
+        Agent::Dev(number) => push_place(out, b" dev ", number),
     }
 }
 
 // a processor, in one piece
-fn push_cpu(out: &mut Vec<u8>, id: u64) -> Result<(), AllocError>
+fn push_cpu(out: &mut Vec<u8>, id: u8) -> Result<(), AllocError>
     ensures { OnOk result (out.new.items ≡ out.old.items ++ (codes " cpu " ++ (hex 2 id ++ codes " "))) }
 {
     out.extend_from_slice(&[
@@ -79,8 +81,8 @@ fn push_cpu(out: &mut Vec<u8>, id: u64) -> Result<(), AllocError>
         b'p',
         b'u',
         b' ',
-        digit(id / 16),
-        digit(id),
+        digit(id as u64 / 16),
+        digit(id as u64),
         b' ',
     ])
 }
@@ -90,56 +92,56 @@ fn push_op(out: &mut Vec<u8>, op: Op) -> Result<(), AllocError>
 {
     match op {
         Op::Imcr => push_text(out, b"imcr"),
-        Op::Warm(page) => push_named(out, b"warm ", page as u64),
-        Op::Init(id) => push_named(out, b"init ", id as u64),
-        Op::Startup(id, page) => push_pair(out, b"startup ", id as u64, page as u64),
-        Op::Check(id) => push_named(out, b"check ", id as u64),
-        Op::Ipi(id, vector) => push_pair(out, b"ipi ", id as u64, vector as u64),
-        Op::Ipl(dest, vector) => push_pair(out, b"ipl ", dest as u64, vector as u64),
-        Op::Nmi(id) => push_named(out, b"nmi ", id as u64),
+        Op::Warm(page) => push_named(out, b"warm ", page),
+        Op::Init(id) => push_named(out, b"init ", id),
+        Op::Startup(id, page) => push_pair(out, b"startup ", id, page),
+        Op::Check(id) => push_named(out, b"check ", id),
+        Op::Ipi(id, vector) => push_pair(out, b"ipi ", id, vector),
+        Op::Ipl(dest, vector) => push_pair(out, b"ipl ", dest, vector),
+        Op::Nmi(id) => push_named(out, b"nmi ", id),
         Op::Take => push_text(out, b"take"),
         Op::Poll => push_text(out, b"poll"),
         Op::Eoi => push_text(out, b"eoi"),
-        Op::Tpr(priority) => push_named(out, b"tpr ", priority as u64),
-        Op::Ldr(dest) => push_named(out, b"ldr ", dest as u64),
-        Op::Dfr(model) => push_named(out, b"dfr ", model as u64),
-        Op::IoSel(place, index) => push_select(out, place as u64, index as u64),
-        Op::IoWin(place, value) => push_window(out, place as u64, value as u64),
+        Op::Tpr(priority) => push_named(out, b"tpr ", priority),
+        Op::Ldr(dest) => push_named(out, b"ldr ", dest),
+        Op::Dfr(model) => push_named(out, b"dfr ", model),
+        Op::IoSel(place, index) => push_select(out, place, index),
+        Op::IoWin(place, value) => push_window(out, place, value),
         Op::IoRead(place) => push_count(out, b"ioread ", place as u64),
         Op::Pause(time) => push_count(out, b"pause ", time as u64),
         Op::Begin => push_text(out, b"begin"),
-        Op::High(place, pin) => push_pin(out, b"high ", place as u64, pin as u64),
-        Op::Low(place, pin) => push_pin(out, b"low ", place as u64, pin as u64),
+        Op::High(place, pin) => push_pin(out, b"high ", place, pin),
+        Op::Low(place, pin) => push_pin(out, b"low ", place, pin),
         Op::End => push_text(out, b"end"),
-        Op::Collect(pins) => push_collect(out, pins as u64),
+        Op::Collect(pins) => push_mask(out, b"collect ", pins),
         Op::Send(pin) => push_count(out, b"send ", pin as u64),
         Op::Sweep => push_text(out, b"sweep"),
     }
 }
 
 // a name and a byte
-fn push_named(out: &mut Vec<u8>, name: &[u8], byte: u64) -> Result<(), AllocError>
+fn push_named(out: &mut Vec<u8>, name: &[u8], byte: u8) -> Result<(), AllocError>
     ensures { OnOk result (out.new.items ≡ out.old.items ++ concat (name.now ∷ hex 2 byte ∷ [])) }
 {
     match push_text(out, name) {
-        Ok(()) => push_two(out, byte),
+        Ok(()) => push_two(out, byte as u64),
         Err(error) => Err(error),
     }
 }
 
 // a name and two bytes
-fn push_pair(out: &mut Vec<u8>, name: &[u8], one: u64, other: u64) -> Result<(), AllocError>
+fn push_pair(out: &mut Vec<u8>, name: &[u8], one: u8, other: u8) -> Result<(), AllocError>
     ensures { OnOk result (out.new.items ≡ out.old.items ++ concat (name.now ∷ hex 2 one ∷ codes " " ∷ hex 2 other ∷ [])) }
 {
     if let Err(error) = push_text(out, name) {
         return Err(error);
     }
     out.extend_from_slice(&[
-        digit(one / 16),
-        digit(one),
+        digit(one as u64 / 16),
+        digit(one as u64),
         b' ',
-        digit(other / 16),
-        digit(other),
+        digit(other as u64 / 16),
+        digit(other as u64),
     ])
 }
 
@@ -154,51 +156,51 @@ fn push_count(out: &mut Vec<u8>, name: &[u8], number: u64) -> Result<(), AllocEr
 }
 
 // a name and a number in decimal, with a space behind it
-fn push_place(out: &mut Vec<u8>, name: &[u8], place: u64) -> Result<(), AllocError>
+fn push_place(out: &mut Vec<u8>, name: &[u8], place: u8) -> Result<(), AllocError>
     ensures { OnOk result (out.new.items ≡ out.old.items ++ concat (name.now ∷ decimal place ∷ codes " " ∷ [])) }
 {
-    match push_count(out, name, place) {
+    match push_count(out, name, place as u64) {
         Ok(()) => push_text(out, b" "),
         Err(error) => Err(error),
     }
 }
 
 // a name, and a pin of the I/O APIC at a place
-fn push_pin(out: &mut Vec<u8>, name: &[u8], place: u64, pin: u64) -> Result<(), AllocError>
+fn push_pin(out: &mut Vec<u8>, name: &[u8], place: u8, pin: u8) -> Result<(), AllocError>
     ensures { OnOk result (out.new.items ≡ out.old.items ++ concat (name.now ∷ decimal place ∷ codes " " ∷ decimal pin ∷ [])) }
 {
     match push_place(out, name, place) {
-        Ok(()) => push_decimal(out, pin),
+        Ok(()) => push_decimal(out, pin as u64),
         Err(error) => Err(error),
     }
 }
 
 // the choice of a register of the I/O APIC at a place
-fn push_select(out: &mut Vec<u8>, place: u64, index: u64) -> Result<(), AllocError>
+fn push_select(out: &mut Vec<u8>, place: u8, index: u8) -> Result<(), AllocError>
     ensures { OnOk result (out.new.items ≡ out.old.items ++ concat (codes "iosel " ∷ decimal place ∷ codes " " ∷ hex 2 index ∷ [])) }
 {
     match push_place(out, b"iosel ", place) {
-        Ok(()) => push_two(out, index),
+        Ok(()) => push_two(out, index as u64),
         Err(error) => Err(error),
     }
 }
 
 // a value for the register that is chosen there
-fn push_window(out: &mut Vec<u8>, place: u64, value: u64) -> Result<(), AllocError>
+fn push_window(out: &mut Vec<u8>, place: u8, value: u32) -> Result<(), AllocError>
     ensures { OnOk result (out.new.items ≡ out.old.items ++ concat (codes "iowin " ∷ decimal place ∷ codes " " ∷ hex 8 value ∷ [])) }
 {
     match push_place(out, b"iowin ", place) {
-        Ok(()) => push_hex(out, 8, value),
+        Ok(()) => push_hex(out, 8, value as u64),
         Err(error) => Err(error),
     }
 }
 
-// a collection of pins
-fn push_collect(out: &mut Vec<u8>, pins: u64) -> Result<(), AllocError>
-    ensures { OnOk result (out.new.items ≡ out.old.items ++ concat (codes "collect " ∷ hex 6 pins ∷ [])) }
+// a name and a mask of pins
+fn push_mask(out: &mut Vec<u8>, name: &[u8], pins: u32) -> Result<(), AllocError>
+    ensures { OnOk result (out.new.items ≡ out.old.items ++ concat (name.now ∷ hex 6 pins ∷ [])) }
 {
-    match push_text(out, b"collect ") {
-        Ok(()) => push_six(out, pins),
+    match push_text(out, name) {
+        Ok(()) => push_six(out, pins as u64),
         Err(error) => Err(error),
     }
 }
@@ -207,7 +209,9 @@ fn push_outcomes(out: &mut Vec<u8>, outcomes: &[Outcome]) -> Result<(), AllocErr
     ensures { OnOk result (out.new.items ≡ out.old.items ++ flat_map further_outcome outcomes.now) }
 {
     for outcome in outcomes {
-        push_further_outcome(out, *outcome)?;
+        if let Err(error) = push_further_outcome(out, *outcome) {
+            return Err(error);
+        }
     }
     Ok(())
 }
@@ -216,12 +220,15 @@ fn push_outcomes(out: &mut Vec<u8>, outcomes: &[Outcome]) -> Result<(), AllocErr
 fn push_further_outcome(out: &mut Vec<u8>, outcome: Outcome) -> Result<(), AllocError>
     ensures { OnOk result (out.new.items ≡ out.old.items ++ further_outcome outcome) }
 {
-    if has_target(outcome.what) {
-        push_target(out, outcome.at as u64)?;
+    let begun = if has_target(outcome.what) {
+        push_target(out, outcome.at as u64)
     } else {
-        out.push(b' ')?;
+        push_text(out, b" ")
+    };
+    match begun {
+        Ok(()) => push_what(out, outcome.what),
+        Err(error) => Err(error),
     }
-    push_what(out, outcome.what)
 }
 
 // a target, in one piece
@@ -270,26 +277,26 @@ fn push_what(out: &mut Vec<u8>, what: What) -> Result<(), AllocError>
         What::Asleep => push_text(out, b"asleep"),
         What::Absent => push_text(out, b"absent"),
         What::Waiting => push_text(out, b"waiting"),
-        What::Started(page) => push_named(out, b"started.", page as u64),
+        What::Started(page) => push_named(out, b"started.", page),
         What::Ignored => push_text(out, b"ignored"),
         What::Nmi => push_text(out, b"nmi"),
         What::Passed => push_text(out, b"passed"),
         What::Unheard => push_text(out, b"unheard"),
-        What::Runs(page) => push_named(out, b"runs.", page as u64),
+        What::Runs(page) => push_named(out, b"runs.", page),
         What::RunsFirst => push_text(out, b"runs.first"),
-        What::Taken(vector) => push_named(out, b"taken.", vector as u64),
+        What::Taken(vector) => push_named(out, b"taken.", vector),
         What::Nothing => push_text(out, b"nothing"),
-        What::Ended(vector, level) => push_ended(out, vector as u64, level),
+        What::Ended(vector, level) => push_ended(out, vector, level),
         What::Plain => push_text(out, b"plain"),
         What::Due => push_text(out, b"due"),
         What::Withdrawn => push_text(out, b"withdrawn"),
-        What::Read(value) => push_read(out, value as u64),
-        What::Pins(due, joined) => push_pins(out, due as u64, joined as u64),
+        What::Read(value) => push_read(out, value),
+        What::Pins(due, joined) => push_pins(out, due, joined),
     }
 }
 
 // the end of an interrupt
-fn push_ended(out: &mut Vec<u8>, vector: u64, level: bool) -> Result<(), AllocError>
+fn push_ended(out: &mut Vec<u8>, vector: u8, level: bool) -> Result<(), AllocError>
     ensures { OnOk result (out.new.items ≡ out.old.items ++ concat (codes "ended." ∷ hex 2 vector ∷ codes "." ∷ trigger_text level ∷ [])) }
 {
     match push_named(out, b"ended.", vector) {
@@ -299,21 +306,21 @@ fn push_ended(out: &mut Vec<u8>, vector: u64, level: bool) -> Result<(), AllocEr
 }
 
 // the value of a register
-fn push_read(out: &mut Vec<u8>, value: u64) -> Result<(), AllocError>
+fn push_read(out: &mut Vec<u8>, value: u32) -> Result<(), AllocError>
     ensures { OnOk result (out.new.items ≡ out.old.items ++ concat (codes "read." ∷ hex 8 value ∷ [])) }
 {
     match push_text(out, b"read.") {
-        Ok(()) => push_hex(out, 8, value),
+        Ok(()) => push_hex(out, 8, value as u64),
         Err(error) => Err(error),
     }
 }
 
 // the pins of a collection
-fn push_pins(out: &mut Vec<u8>, due: u64, joined: u64) -> Result<(), AllocError>
+fn push_pins(out: &mut Vec<u8>, due: u32, joined: u32) -> Result<(), AllocError>
     ensures { OnOk result (out.new.items ≡ out.old.items ++ concat (codes "pins." ∷ hex 6 due ∷ codes "." ∷ hex 6 joined ∷ [])) }
 {
-    push_text(out, b"pins.")?;
-    push_six(out, due)?;
-    push_text(out, b".")?;
-    push_six(out, joined)
+    if let Err(error) = push_mask(out, b"pins.", due) {
+        return Err(error);
+    }
+    push_mask(out, b".", joined)
 }

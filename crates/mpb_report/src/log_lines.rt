@@ -18,7 +18,9 @@ pub(crate) fn push_log_lines(
     ensures { OnOk result (out.new.items ≡ out.old.items ++ concat (numbered log_line 0 (map (λ log. log.items) logs.now))) }
 {
     for number in 0..logs.len() {
-        push_log_line(out, number as u64, logs[number].as_slice())?;
+        if let Err(error) = push_log_line(out, number as u64, logs[number].as_slice()) {
+            return Err(error);
+        }
     }
     Ok(())
 }
@@ -27,16 +29,20 @@ pub(crate) fn push_log_lines(
 fn push_log_line(out: &mut Vec<u8>, number: u64, log: &[(Pulse, Hit)]) -> Result<(), AllocError>
     ensures { OnOk result (out.new.items ≡ out.old.items ++ log_line number log.now) }
 {
-    push_parts(
+    if let Err(error) = push_parts(
         out,
         &[
             Part::Text(b"log "),
             Part::Decimal(number),
             Part::Text(b" :"),
         ],
-    )?;
-    push_pulses(out, log)?;
-    push_text(out, b"\n")
+    ) {
+        return Err(error);
+    }
+    match push_pulses(out, log) {
+        Ok(()) => push_text(out, b"\n"),
+        Err(error) => Err(error),
+    }
 }
 
 fn push_pulses(out: &mut Vec<u8>, log: &[(Pulse, Hit)]) -> Result<(), AllocError>
@@ -52,7 +58,9 @@ fn push_each_pulse(out: &mut Vec<u8>, log: &[(Pulse, Hit)]) -> Result<(), AllocE
     ensures { OnOk result (out.new.items ≡ out.old.items ++ flat_map pulse_text log.now) }
 {
     for pulse in log {
-        push_pulse(out, *pulse)?;
+        if let Err(error) = push_pulse(out, *pulse) {
+            return Err(error);
+        }
     }
     Ok(())
 }

@@ -13,7 +13,9 @@ pub fn push_parts(out: &mut Vec<u8>, parts: &[Part]) -> Result<(), AllocError>
     ensures { OnOk result (out.new.items ≡ out.old.items ++ flat_map part_text parts.now) }
 {
     for part in parts {
-        push_one(out, part)?;
+        if let Err(error) = push_one(out, part) {
+            return Err(error);
+        }
     }
     Ok(())
 }

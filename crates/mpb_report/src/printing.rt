@@ -29,22 +29,30 @@ pub fn report_text(alloc: Global, board: &Board, account: &Account) -> Result<Ve
 fn push_report(out: &mut Vec<u8>, board: &Board, account: &Account) -> Result<(), AllocError>
     ensures { OnOk result (out.new.items ≡ out.old.items ++ report_of board.now.plan board.now.journal (logs_of account.now)) }
 {
-    push_journal(out, board.journal())?;
-    push_log_lines(out, account.logs.as_slice())?;
-    push_state_lines(out, board)?;
-    push_line(out, &[Part::Text(b"end")])?;
-    Ok(())
+    if let Err(error) = push_journal(out, board.journal()) {
+        return Err(error);
+    }
+    if let Err(error) = push_log_lines(out, account.logs.as_slice()) {
+        return Err(error);
+    }
+    match push_state_lines(out, board) {
+        Ok(()) => push_line(out, &[Part::Text(b"end")]),
+        Err(error) => Err(error),
+    }
 }
 
 // the two lines at the head, and those of the entries
 fn push_journal(out: &mut Vec<u8>, journal: &[Entry]) -> Result<(), AllocError>
     ensures { OnOk result (out.new.items ≡ out.old.items ++ concat (journal_lines journal.now)) }
 {
-    push_line(out, &[Part::Text(b"mpboot 1")])?;
-    push_line(
+    if let Err(error) = push_line(out, &[Part::Text(b"mpboot 1")]) {
+        return Err(error);
+    }
+    match push_line(
         out,
         &[Part::Text(b"entries "), Part::Decimal(journal.len() as u64)],
-    )?;
-    push_entry_lines(out, journal)?;
-    Ok(())
+    ) {
+        Ok(()) => push_entry_lines(out, journal),
+        Err(error) => Err(error),
+    }
 }

@@ -1,9 +1,10 @@
 //! The lines of a board's state.
 
-ghost use Rattle.std.specs.Prelude.{◌≡◌, ◌≤◌, ◌++◌, OnOk, map, slice_get};
+ghost use Rattle.std.specs.Prelude.{◌≡◌, ◌≤◌, ◌++◌, OnOk, codes, map, slice_get};
 ghost use Rattle.std.specs.List.{concat};
 ghost use Rattle.mpb_spec.specs.State.{processor_of};
 ghost use Rattle.mpb_board.specs.BoardView.{state_of};
+ghost use Rattle.mpt_listing.specs.Listing.{hex};
 ghost use Rattle.mpb_report_spec.specs.Numbered.{numbered};
 ghost use Rattle.mpb_report_spec.specs.StateLines.{imcr_text, imcr_line, life_text, registers_text, members, vectors_text, cpu_line, processor_line, io_line, place_line, state_lines};
 ghost use Rattle.mpb_report.specs.Found.{register_of, found_cpu, found_io};
@@ -20,10 +21,13 @@ use std::alloc::AllocError;
 pub(crate) fn push_state_lines(out: &mut Vec<u8>, board: &Board) -> Result<(), AllocError>
     ensures { OnOk result (out.new.items ≡ out.old.items ++ concat (state_lines (state_of board.now))) }
 {
-    push_imcr_line(out, board.imcr())?;
-    push_cpu_lines(out, board)?;
-    push_io_lines(out, board)?;
-    Ok(())
+    if let Err(error) = push_imcr_line(out, board.imcr()) {
+        return Err(error);
+    }
+    match push_cpu_lines(out, board) {
+        Ok(()) => push_io_lines(out, board),
+        Err(error) => Err(error),
+    }
 }
 
 fn push_imcr_line(out: &mut Vec<u8>, imcr: Imcr) -> Result<(), AllocError>
@@ -51,7 +55,9 @@ fn push_cpu_lines(out: &mut Vec<u8>, board: &Board) -> Result<(), AllocError>
 {
     let cpus = board.config().cpus.as_slice();
     for cpu in cpus {
-        push_found_cpu(out, board, cpu.id)?;
+        if let Err(error) = push_found_cpu(out, board, cpu.id) {
+            return Err(error);
+        }
     }
     Ok(())
 }
@@ -72,22 +78,36 @@ fn push_found_cpu(out: &mut Vec<u8>, board: &Board, id: u8) -> Result<(), AllocE
 fn push_cpu_line(out: &mut Vec<u8>, id: u8, life: Life, lapic: &Lapic) -> Result<(), AllocError>
     ensures { OnOk result (out.new.items ≡ out.old.items ++ cpu_line id life lapic.now) }
 {
-    push_parts(
+    if let Err(error) = push_cpu_head(out, id, life) {
+        return Err(error);
+    }
+    if let Err(error) = push_parts(
+        out,
+        &[Part::Text(b" tpr "), Part::Hex(2, lapic.tpr() as u64)],
+    ) {
+        return Err(error);
+    }
+    match push_registers(out, lapic) {
+        Ok(()) => push_text(out, b"\n"),
+        Err(error) => Err(error),
+    }
+}
+
+// the id and whether the processor runs
+fn push_cpu_head(out: &mut Vec<u8>, id: u8, life: Life) -> Result<(), AllocError>
+    ensures { OnOk result (out.new.items ≡ out.old.items ++ (codes "state cpu " ++ (hex 2 id ++ (codes " " ++ life_text life)))) }
+{
+    if let Err(error) = push_parts(
         out,
         &[
             Part::Text(b"state cpu "),
             Part::Hex(2, id as u64),
             Part::Text(b" "),
         ],
-    )?;
-    push_life(out, life)?;
-    push_parts(
-        out,
-        &[Part::Text(b" tpr "), Part::Hex(2, lapic.tpr() as u64)],
-    )?;
-    push_registers(out, lapic)?;
-    push_text(out, b"\n")?;
-    Ok(())
+    ) {
+        return Err(error);
+    }
+    push_life(out, life)
 }
 
 // the vectors that are requested, in service and level-triggered
@@ -138,7 +158,9 @@ fn push_io_lines(out: &mut Vec<u8>, board: &Board) -> Result<(), AllocError>
 {
     let count = board.config().ios.len();
     for place in 0..count {
-        push_found_io(out, board, place as u8)?;
+        if let Err(error) = push_found_io(out, board, place as u8) {
+            return Err(error);
+        }
     }
     Ok(())
 }

@@ -61,7 +61,9 @@ fn push_vectors(out: &mut Vec<u8>, vectors: &[u8]) -> Result<(), AllocError>
     match vectors {
         [] => push_text(out, b"-"),
         [first, rest @ ..] => {
-            push_hex(out, 2, *first as u64)?;
+            if let Err(error) = push_hex(out, 2, *first as u64) {
+                return Err(error);
+            }
             push_further_vectors(out, rest)
         }
     }
@@ -72,7 +74,9 @@ fn push_further_vectors(out: &mut Vec<u8>, vectors: &[u8]) -> Result<(), AllocEr
     ensures { OnOk result (out.new.items ≡ out.old.items ++ flat_map further_vector vectors.now) }
 {
     for vector in vectors {
-        push_further_vector(out, *vector)?;
+        if let Err(error) = push_further_vector(out, *vector) {
+            return Err(error);
+        }
     }
     Ok(())
 }
@@ -80,6 +84,8 @@ fn push_further_vectors(out: &mut Vec<u8>, vectors: &[u8]) -> Result<(), AllocEr
 fn push_further_vector(out: &mut Vec<u8>, vector: u8) -> Result<(), AllocError>
     ensures { OnOk result (out.new.items ≡ out.old.items ++ further_vector vector) }
 {
-    push_text(out, b",")?;
-    push_hex(out, 2, vector as u64)
+    match push_text(out, b",") {
+        Ok(()) => push_hex(out, 2, vector as u64),
+        Err(error) => Err(error),
+    }
 }

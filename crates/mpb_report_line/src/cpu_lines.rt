@@ -1,6 +1,6 @@
 //! The lines of processors, each read from the left.
 
-ghost use Rattle.std.specs.Prelude.{◌≡◌, IfSome, IfNone, IfOk};
+ghost use Rattle.std.specs.Prelude.{◌≡◌, [], IfSome, IfNone, IfOk};
 ghost use Rattle.mpt_line.specs.Reading.{Gives, field_in, after, both};
 ghost use Rattle.mpt_line.specs.Lines.{BeginsWith, BeginsWithNone};
 ghost use Rattle.mpb_report_line.specs.Lines.{cpu_text};
@@ -29,26 +29,29 @@ pub fn read_cpu_line(alloc: Global, text: &[u8]) -> Result<Option<(CpuLine, &[u8
 fn read_cpu(alloc: Global, line: &[u8]) -> Result<Option<(CpuLine, &[u8])>, AllocError>
     ensures { IfOk result (λ o. Gives (λ x. (x.0, x.1.now)) o (cpu_in line.now)) }
 {
-    let Some(((id, life, tpr), rest)) = read_head(line) else {
+    let Some((head, rest)) = read_head(line) else {
         return Ok(None);
     };
-    match read_registers(alloc, rest) {
-        Ok(Some(read)) => {
-            let ((irr, isr, tmr), rest) = read;
-            Ok(Some((
-                CpuLine {
-                    id,
-                    life,
-                    tpr,
-                    irr,
-                    isr,
-                    tmr,
-                },
-                rest,
-            )))
-        }
+    let mut lists = (Vec::new(alloc), Vec::new(alloc), Vec::new(alloc));
+    match read_registers(&mut lists, rest) {
+        Ok(Some(rest)) => Ok(Some((cpu_line(head, lists), rest))),
         Ok(None) => Ok(None),
         Err(error) => Err(error),
+    }
+}
+
+fn cpu_line(head: (u8, Life, u8), lists: (Vec<u8>, Vec<u8>, Vec<u8>)) -> CpuLine
+    ensures { result ≡ record { id = head.0; life = head.1; tpr = head.2; irr = lists.0.items; isr = lists.1.items; tmr = lists.2.items } }
+{
+    let (id, life, tpr) = head;
+    let (irr, isr, tmr) = lists;
+    CpuLine {
+        id,
+        life,
+        tpr,
+        irr: Sequence::new(irr),
+        isr: Sequence::new(isr),
+        tmr: Sequence::new(tmr),
     }
 }
 
@@ -92,30 +95,30 @@ fn read_life(line: &[u8]) -> Option<(Life, &[u8])>
     Some((Life::Started(page), rest))
 }
 
-// the vectors that are requested, in service and level-triggered, to the end of the line
+// the vectors that are requested, in service and level-triggered, each into an empty list, to the end of
+// the line
 #[tactic(auto, unfolding(crate::specs::Forms::registers_in))]
-fn read_registers(
-    alloc: Global,
-    line: &[u8],
-) -> Result<Option<((Sequence<u8>, Sequence<u8>, Sequence<u8>), &[u8])>, AllocError>
-    ensures { IfOk result (λ o. Gives (λ x. ((x.0.0, (x.0.1, x.0.2)), x.1.now)) o (registers_in line.now)) }
+fn read_registers<'a>(
+    lists: &mut (Vec<u8>, Vec<u8>, Vec<u8>),
+    line: &'a [u8],
+) -> Result<Option<&'a [u8]>, AllocError>
+    requires irr { lists.old.0.items ≡ [] }
+    requires isr { lists.old.1.items ≡ [] }
+    requires tmr { lists.old.2.items ≡ [] }
+    ensures { IfOk result (λ o. Gives (λ rest. ((lists.new.0.items, (lists.new.1.items, lists.new.2.items)), rest.now)) o (registers_in line.now)) }
 {
     let Some(rest) = read_part(line, b" irr ") else {
         return Ok(None);
     };
-    let (irr, rest) = match read_vectors(alloc, rest, b" isr ") {
-        Ok(Some(read)) => read,
+    let rest = match read_vectors(&mut lists.0, rest, b" isr ") {
+        Ok(Some(rest)) => rest,
         Ok(None) => return Ok(None),
         Err(error) => return Err(error),
     };
-    let (isr, rest) = match read_vectors(alloc, rest, b" tmr ") {
-        Ok(Some(read)) => read,
+    let rest = match read_vectors(&mut lists.1, rest, b" tmr ") {
+        Ok(Some(rest)) => rest,
         Ok(None) => return Ok(None),
         Err(error) => return Err(error),
     };
-    match read_vectors(alloc, rest, b"\n") {
-        Ok(Some((tmr, rest))) => Ok(Some(((irr, isr, tmr), rest))),
-        Ok(None) => Ok(None),
-        Err(error) => Err(error),
-    }
+    read_vectors(&mut lists.2, rest, b"\n")
 }

@@ -1,6 +1,6 @@
 //! The lines of the devices' logs, each read from the left.
 
-ghost use Rattle.std.specs.Prelude.{◌≡◌, ◌++◌, ◌<◌, IfSome, IfNone, IfOk, length};
+ghost use Rattle.std.specs.Prelude.{◌≡◌, ◌++◌, ◌<◌, [], IfSome, IfNone, IfOk, length};
 ghost use Rattle.mpt_line.specs.Reading.{Gives};
 ghost use Rattle.mpt_line.specs.Lines.{BeginsWith, BeginsWithNone};
 ghost use Rattle.mpb_report_spec.specs.LogLines.{log_line};
@@ -43,33 +43,33 @@ fn read_log(
     let Some(rest) = read_number(rest, number, b" :") else {
         return Ok(None);
     };
-    match read_pulses(alloc, rest) {
-        Ok(Some((pulses, rest))) => Ok(Some((Sequence::new(pulses), rest))),
+    let mut pulses = Vec::new(alloc);
+    match read_pulses(&mut pulses, rest) {
+        Ok(Some(rest)) => Ok(Some((Sequence::new(pulses), rest))),
         Ok(None) => Ok(None),
         Err(error) => Err(error),
     }
 }
 
-// pulses to the end of the line, or that there are none
+// pulses to the end of the line, or that there are none; they are put into an empty list
 #[tactic(auto, unfolding(crate::specs::Forms::pulses_in))]
-fn read_pulses(alloc: Global, line: &[u8]) -> Result<Option<(Vec<(Pulse, Hit)>, &[u8])>, AllocError>
-    ensures { IfOk result (λ o. Gives (λ x. (x.0.items, x.1.now)) o (pulses_in line.now)) }
+fn read_pulses<'a>(
+    pulses: &mut Vec<(Pulse, Hit)>,
+    line: &'a [u8],
+) -> Result<Option<&'a [u8]>, AllocError>
+    requires { pulses.old.items ≡ [] }
+    ensures { IfOk result (λ o. Gives (λ rest. (pulses.new.items, rest.now)) o (pulses_in line.now)) }
 {
-    let mut pulses = Vec::new(alloc);
     if let Some(rest) = read_part(line, b" none\n") {
-        return Ok(Some((pulses, rest)));
+        return Ok(Some(rest));
     }
-    let rest = match push_run(&mut pulses, line) {
+    let rest = match push_run(pulses, line) {
         Ok(rest) => rest,
         Err(error) => return Err(error),
     };
-    let Some(rest) = read_end(rest) else {
-        return Ok(None);
-    };
-    if pulses.is_empty() {
-        Ok(None)
-    } else {
-        Ok(Some((pulses, rest)))
+    match read_end(rest) {
+        Some(rest) if !pulses.is_empty() => Ok(Some(rest)),
+        _ => Ok(None),
     }
 }
 
@@ -83,7 +83,9 @@ fn push_run<'a>(pulses: &mut Vec<(Pulse, Hit)>, line: &'a [u8]) -> Result<&'a [u
         let Some((pulse, after)) = read_pulse(rest) else {
             return Ok(rest);
         };
-        pulses.push(pulse)?;
+        let Ok(()) = pulses.push(pulse) else {
+            return Err(AllocError);
+        };
         rest = after;
     }
     Ok(rest)

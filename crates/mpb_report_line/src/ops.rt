@@ -31,22 +31,19 @@ pub(crate) fn read_agent(line: &[u8]) -> Option<(Agent, &[u8])>
 pub(crate) fn read_op(line: &[u8]) -> Option<(Op, &[u8])>
     ensures { Gives (λ x. (x.0, x.1.now)) result (op_in line.now) }
 {
-    if let Some((op, rest)) = read_bare_op(line) {
-        return Some((op, rest));
+    if let Some(read) = read_bare_op(line) {
+        return Some(read);
     }
-    if let Some((op, rest)) = read_byte_op(line) {
-        return Some((op, rest));
+    if let Some(read) = read_byte_op(line) {
+        return Some(read);
     }
-    if let Some((op, rest)) = read_two_op(line) {
-        return Some((op, rest));
+    if let Some(read) = read_two_op(line) {
+        return Some(read);
     }
-    if let Some((op, rest)) = read_pin_op(line) {
-        return Some((op, rest));
+    if let Some(read) = read_pin_op(line) {
+        return Some(read);
     }
-    let Some((op, rest)) = read_logical_op(line) else {
-        return None;
-    };
-    Some((op, rest))
+    read_logical_op(line)
 }
 
 // the ops without a number

@@ -80,8 +80,8 @@ fn read_at_target(line: &[u8]) -> Option<((u8, What), &[u8])>
 fn read_target_what(line: &[u8]) -> Option<(What, &[u8])>
     ensures { Gives (λ x. (x.0, x.1.now)) result (target_what_in line.now) }
 {
-    if let Some((what, rest)) = read_target_word(line) {
-        return Some((what, rest));
+    if let Some(read) = read_target_word(line) {
+        return Some(read);
     }
     if let Some((page, rest)) = read_u8_field(line, b"started.") {
         return Some((What::Started(page), rest));
@@ -134,8 +134,8 @@ fn read_target_word(line: &[u8]) -> Option<(What, &[u8])>
 fn read_bare_what(line: &[u8]) -> Option<(What, &[u8])>
     ensures { Gives (λ x. (x.0, x.1.now)) result (bare_what_in line.now) }
 {
-    if let Some((what, rest)) = read_bare_word(line) {
-        return Some((what, rest));
+    if let Some(read) = read_bare_word(line) {
+        return Some(read);
     }
     if let Some((vector, rest)) = read_u8_field(line, b"taken.") {
         return Some((What::Taken(vector), rest));

@@ -9,27 +9,23 @@ use mpt_line::{read_byte, read_part, read_u8_field};
 use mpt_spec::Sequence;
 use std::alloc::{AllocError, Global};
 
-/// Vectors, strictly ascending, and then a text.
+/// Vectors, strictly ascending, and then a text. They are put into an empty list, which holds any where
+/// none are read.
 #[tactic(auto, unfolding(crate::specs::Forms::vectors_in))]
 pub(crate) fn read_vectors<'a>(
-    alloc: Global,
+    vectors: &mut Vec<u8>,
     line: &'a [u8],
     stop: &[u8],
-) -> Result<Option<(Sequence<u8>, &'a [u8])>, AllocError>
-    ensures { IfOk result (λ o. Gives (λ x. (x.0, x.1.now)) o (vectors_in stop.now line.now)) }
+) -> Result<Option<&'a [u8]>, AllocError>
+    requires { vectors.old.items ≡ [] }
+    ensures { IfOk result (λ o. Gives (λ rest. (vectors.new.items, rest.now)) o (vectors_in stop.now line.now)) }
 {
     if let Some(rest) = read_none(line, stop) {
-        return Ok(Some((Sequence::new(Vec::new(alloc)), rest)));
+        return Ok(Some(rest));
     }
-    match read_some(alloc, line, stop) {
-        Ok(Some((vectors, rest))) => {
-            if ascend(vectors.as_slice()) {
-                Ok(Some((Sequence::new(vectors), rest)))
-            } else {
-                Ok(None)
-            }
-        }
-        Ok(None) => Ok(None),
+    match read_some(vectors, line, stop) {
+        Ok(Some(rest)) if ascend(vectors.as_slice()) => Ok(Some(rest)),
+        Ok(_) => Ok(None),
         Err(error) => Err(error),
     }
 }
@@ -46,25 +42,23 @@ fn read_none<'a>(line: &'a [u8], stop: &[u8]) -> Option<&'a [u8]>
 
 // one vector or more
 fn read_some<'a>(
-    alloc: Global,
+    vectors: &mut Vec<u8>,
     line: &'a [u8],
     stop: &[u8],
-) -> Result<Option<(Vec<u8>, &'a [u8])>, AllocError>
-    ensures { IfOk result (λ o. Gives (λ x. (x.0.items, x.1.now)) o
+) -> Result<Option<&'a [u8]>, AllocError>
+    requires { vectors.old.items ≡ [] }
+    ensures { IfOk result (λ o. Gives (λ rest. (vectors.new.items, rest.now)) o
         (seen_as cons_of (both (hex_in 2) (items_in (field_in (codes ",") 2) 255 stop.now)) line.now)) }
 {
     let Some((first, rest)) = read_byte(line) else {
         return Ok(None);
     };
-    let mut vectors = Vec::new(alloc);
-    vectors.push(first)?;
-    let rest = match push_run(&mut vectors, rest) {
-        Ok(rest) => rest,
-        Err(error) => return Err(error),
+    let Ok(()) = vectors.push(first) else {
+        return Err(AllocError);
     };
-    match read_part(rest, stop) {
-        Some(rest) => Ok(Some((vectors, rest))),
-        None => Ok(None),
+    match push_run(vectors, rest) {
+        Ok(rest) => Ok(read_part(rest, stop)),
+        Err(error) => Err(error),
     }
 }
 
@@ -78,7 +72,9 @@ fn push_run<'a>(vectors: &mut Vec<u8>, line: &'a [u8]) -> Result<&'a [u8], Alloc
         let Some((vector, after)) = read_u8_field(rest, b",") else {
             return Ok(rest);
         };
-        vectors.push(vector)?;
+        let Ok(()) = vectors.push(vector) else {
+            return Err(AllocError);
+        };
         rest = after;
     }
     Ok(rest)

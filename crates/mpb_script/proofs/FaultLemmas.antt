@@ -14,7 +14,7 @@ use Rattle.mpb_script.specs.Keys.{◌<|>◌, unless, is_page, wrong_key, wrong_h
 use Rattle.mpb_script.specs.Words.{PlacedWord, many, cpu_tables, device_tables, all_words, word_why, word_fault, first_some, script_fault_of}
 use Rattle.mpb_script.specs.Script.{HasFault}
 use Rattle.mpb_script.specs.Answers.{IsCauseOf}
-use Rattle.mpb_script.specs.Steps.{IsWrong, word_count, wrong_words}
+use Rattle.mpb_script.specs.Steps.{IsWrong, word_count, wrong_words, wrong_cpu_word, wrong_device_word}
 use Rattle.mpb_script.proofs.WordLemmas.{first_wrong_word, length-all_words}
 
 first_is : {A : Type 0} (a b : Option A) (x : A) → Some x ≡ a → (a <|> b) ≡ Some x
@@ -149,3 +149,24 @@ count_both a b x y n first second sum = omega arith
 -- what a document without a wrong key and with few words is refused for
 pub wrong-words : (d : Data) (e : ScriptFault) → None ≡ wrong_key d → word_count (cpu_tables d) + word_count (device_tables d) ≤ 8192 → IsWrong (wrong_words d) e → IsWrong (script_fault_of d) e
 wrong-words d e right few wrong = elim wrong [ inl memory ↦ inl memory | inr found ↦ inr (fault-words d right few ∙ found) ]
+
+-- a wrong word of a processor is the first of all
+pub wrong_of_cpus : (d : Data) (ts : List Data) (e : ScriptFault) → ts ≡ cpu_tables d → IsWrong (wrong_cpu_word ts) e → IsWrong (wrong_words d) e
+unfolding wrong_words
+wrong_of_cpus d ts e same wrong = elim wrong [
+  | inl memory ↦ inl memory
+  | inr found ↦ inr (first_is _ _ _ (sym (ap wrong_cpu_word (sym same) ∙ found)))
+]
+
+-- one of a device is, where the processors have none
+pub wrong_of_devices : (d : Data) (ts ds : List Data) (e : ScriptFault) → ts ≡ cpu_tables d → ds ≡ device_tables d → wrong_cpu_word ts ≡ None → IsWrong (wrong_device_word 0 ds) e → IsWrong (wrong_words d) e
+unfolding wrong_words
+wrong_of_devices d ts ds e same others none wrong = elim wrong [
+  | inl memory ↦ inl memory
+  | inr found ↦ inr (first_isn't _ _ (sym (ap wrong_cpu_word (sym same) ∙ none)) ∙ ap (wrong_device_word 0) (sym others) ∙ found)
+]
+
+-- there is none
+pub none_wrong : (d : Data) (ts ds : List Data) → ts ≡ cpu_tables d → ds ≡ device_tables d → wrong_cpu_word ts ≡ None → wrong_device_word 0 ds ≡ None → wrong_words d ≡ None
+unfolding wrong_words
+none_wrong d ts ds same others cpus devices = first_isn't _ _ (sym (ap wrong_cpu_word (sym same) ∙ cpus)) ∙ ap (wrong_device_word 0) (sym others) ∙ devices

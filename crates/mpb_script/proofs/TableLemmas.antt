@@ -1,6 +1,7 @@
 -- Tables that are read one by one.
-use Rattle.std.proofs.Common.{◌≡◌, ℕ, ◌+◌, ◌<◌, ◌≤◌, suc, List, [], ◌∷◌, ◌++◌, length, map, take, drop, get_or, Option, Some, None, Ok, codes, refl, sym, ap, ◌∙◌, add-one, arith, inl, inr}
-use Rattle.std.proofs.lemmas.List.{at_drop_more, at_drop_all, take_more, take_all, length-map}
+use Rattle.std.proofs.Common.{◌≡◌, ℕ, ◌+◌, ◌<◌, ◌≤◌, suc, true, false, List, [], ◌∷◌, ◌++◌, length, map, take, drop, get_or, Option, Some, None, Ok, codes, refl, sym, ap, ◌∙◌, add-one, arith, inl, inr}
+use Rattle.std.specs.Prelude.{is_some}
+use Rattle.std.proofs.lemmas.List.{at_drop_more, at_drop_all, take_more, take_all, length-map, map_more}
 use Rattle.std.proofs.lemmas.List.Sums.{sum_by_more, sum_by_more_le, sum_by-cons}
 use Rattle.std.specs.List.{sum_by}
 use Rattle.toml.specs.Data.{Data}
@@ -12,7 +13,7 @@ use Rattle.mpb_spec.specs.declared.config.DevWord.{DevWord}
 use Rattle.mpb_script.specs.declared.script.CpuScript.{CpuScript}
 use Rattle.mpb_script.specs.Document.{elements_at, text_of}
 use Rattle.mpb_script.specs.Steps.{IsWrong, IsProgram, AreCpus, AreDevices, word_count, wrong_word, wrong_cpu_word, wrong_device_word}
-use Rattle.mpb_script.specs.Keys.{◌<|>◌}
+use Rattle.mpb_script.specs.Keys.{◌<|>◌, wrong_cpu, wrong_cpus, wrong_device, wrong_devices}
 use Rattle.mpb_words.specs.Words.{cpu_op_of, device_word_of}
 use Rattle.mpb_script.specs.Words.{words_of, cpu_id}
 
@@ -164,3 +165,35 @@ devices_all ps vs i over so_far = (
   read_all (λ p. map Ok p) (λ t. map device_word_of (words_of t)) ps vs i over so_far.0,
   sym so_far.1 ∙ wrong_device_word-end vs i over,
 )
+
+-- ---- wrong keys
+
+-- the first of two faults is there, or it is the other
+pub is_here : {A : Type 0} (a b : Option A) → is_some a ≡ true → a ≡ (a <|> b)
+is_here None b e = cc
+is_here (Some x) b e = refl
+
+pub is_later : {A : Type 0} (a b : Option A) → is_some a ≡ false → (a <|> b) ≡ b
+is_later None b e = refl
+is_later (Some x) b e = cc
+
+pub wrong_cpus-at : (vs : List Value) (i : ℕ) (v : Value) → i < length vs → v ≡ get_or vs i v
+    → wrong_cpus (map view (take i vs)) (map view (drop i vs)) ≡ (wrong_cpu (map view (take i vs)) (view v) <|> wrong_cpus (map view (take (i + 1) vs)) (map view (drop (i + 1) vs)))
+wrong_cpus-at vs i v within is =
+    let before = map view (take i vs) in
+    let after = map view (drop (i + 1) vs) in
+    at_drop_more (λ xs. wrong_cpus before (map view xs)) vs i v within
+    ∙ ap (λ x. wrong_cpu before (view x) <|> wrong_cpus (before ++ view x ∷ []) after) (sym is)
+    ∙ ap (λ ts. wrong_cpu before (view v) <|> wrong_cpus ts after) (sym (map_more view vs i v within ∙ ap (λ x. before ++ view x ∷ []) (sym is)))
+
+pub wrong_cpus-end : (vs : List Value) (i : ℕ) → length vs ≤ i → wrong_cpus (map view (take i vs)) (map view (drop i vs)) ≡ None
+wrong_cpus-end vs i over = at_drop_all (λ xs. wrong_cpus (map view (take i vs)) (map view xs)) vs i over
+
+pub wrong_devices-at : (vs : List Value) (i : ℕ) (v : Value) → i < length vs → v ≡ get_or vs i v
+    → wrong_devices (map view (drop i vs)) ≡ (wrong_device (view v) <|> wrong_devices (map view (drop (i + 1) vs)))
+wrong_devices-at vs i v within is =
+    at_drop_more (λ xs. wrong_devices (map view xs)) vs i v within
+    ∙ ap (λ x. wrong_device (view x) <|> wrong_devices (map view (drop (i + 1) vs))) (sym is)
+
+pub wrong_devices-end : (vs : List Value) (i : ℕ) → length vs ≤ i → wrong_devices (map view (drop i vs)) ≡ None
+wrong_devices-end vs i over = at_drop_all (λ xs. wrong_devices (map view xs)) vs i over

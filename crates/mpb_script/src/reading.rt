@@ -29,7 +29,9 @@ fn numbers(alloc: Global, values: &[Value]) -> Result<Sequence<u8>, AllocError>
 {
     let mut ids = Vec::new(alloc);
     for value in values {
-        ids.push(number(value, 254) as u8)?;
+        let Ok(()) = ids.push(number(value, 254) as u8) else {
+            return Err(AllocError);
+        };
     }
     Ok(Sequence::new(ids))
 }

@@ -49,21 +49,42 @@ pub(crate) fn program(
     requires pins { AllByRecursion HasPin answers.now }
     ensures { IfOk result (λ ops. ops.items ≡ boot_program_of p.now answers.now page) }
 {
-    let mut ops = imcr_ops(alloc, p.imcr)?;
-    push_starts(&mut ops, p.processors.as_slice(), boot, page)?;
-    push_rows(&mut ops, answers)?;
-    Ok(ops)
+    let mut ops = Vec::new(alloc);
+    match push_program(&mut ops, p, boot, answers, page) {
+        Ok(()) => Ok(ops),
+        Err(error) => Err(error),
+    }
+}
+
+fn push_program(
+    ops: &mut Vec<Op>,
+    p: &Platform,
+    boot: u8,
+    answers: &[Answer],
+    page: u8,
+) -> Result<(), AllocError>
+    requires boot { boot ≡ boot_id_of p.now }
+    requires pins { AllByRecursion HasPin answers.now }
+    ensures { OnOk result (ops.new.items ≡ ops.old.items ++ boot_program_of p.now answers.now page) }
+{
+    if let Err(error) = push_imcr(ops, p.imcr) {
+        return Err(error);
+    }
+    match push_starts(ops, p.processors.as_slice(), boot, page) {
+        Ok(()) => push_rows(ops, answers),
+        Err(error) => Err(error),
+    }
 }
 
 // the APICs are connected
-fn imcr_ops(alloc: Global, imcr: bool) -> Result<Vec<Op>, AllocError>
-    ensures { IfOk result (λ ops. ops.items ≡ imcr_ops imcr) }
+fn push_imcr(ops: &mut Vec<Op>, imcr: bool) -> Result<(), AllocError>
+    ensures { OnOk result (ops.new.items ≡ ops.old.items ++ imcr_ops imcr) }
 {
-    let mut ops = Vec::new(alloc);
     if imcr {
-        ops.push(Op::Imcr)?;
+        ops.extend_from_slice(&[Op::Imcr])
+    } else {
+        Ok(())
     }
-    Ok(ops)
 }
 
 // each enabled processor but the boot processor is started
@@ -77,7 +98,9 @@ fn push_starts(
 {
     for e in processors {
         if is_other(*e, boot) {
-            push_start(ops, *e, page)?;
+            if let Err(error) = push_start(ops, *e, page) {
+                return Err(error);
+            }
         }
     }
     Ok(())
@@ -119,7 +142,9 @@ fn push_rows(ops: &mut Vec<Op>, answers: &[Answer]) -> Result<(), AllocError>
     ensures { OnOk result (ops.new.items ≡ ops.old.items ++ flat_map row_ops answers.now) }
 {
     for answer in answers {
-        push_row(ops, *answer)?;
+        if let Err(error) = push_row(ops, *answer) {
+            return Err(error);
+        }
     }
     Ok(())
 }

@@ -16,7 +16,9 @@ pub fn enabled_ids(alloc: Global, p: &Platform) -> Result<Vec<u8>, AllocError>
     let mut ids = Vec::new(alloc);
     for e in processors {
         if e.is_enabled() {
-            ids.push(e.apic)?;
+            let Ok(()) = ids.push(e.apic) else {
+                return Err(AllocError);
+            };
         }
     }
     Ok(ids)
@@ -30,7 +32,9 @@ pub fn io_ids(alloc: Global, p: &Platform) -> Result<Vec<u8>, AllocError>
     let mut ids = Vec::new(alloc);
     for io in ios {
         if io.is_enabled() {
-            ids.push(io.id)?;
+            let Ok(()) = ids.push(io.id) else {
+                return Err(AllocError);
+            };
         }
     }
     Ok(ids)
@@ -74,7 +78,9 @@ pub fn board_ids(
     for n in 0..256u16 {
         let id = n as u8;
         if is_on_board(enabled, s, id) {
-            ids.push(id)?;
+            let Ok(()) = ids.push(id) else {
+                return Err(AllocError);
+            };
         }
     }
     Ok(ids)

@@ -44,10 +44,16 @@ pub fn made(
     ensures { IfOk result (λ c. c ≡ board_config_of p.now answers.now s.now) }
 {
     let boot = boot_id(p);
-    let boot_program = program(alloc, p, boot, answers, s.page)?;
+    let Ok(boot_program) = program(alloc, p, boot, answers, s.page) else {
+        return Err(AllocError);
+    };
     let boot_len = boot_program.len() as u32;
-    let cpus = cpu_configs(alloc, p, boot, boot_program.as_slice(), s, board)?;
-    let devices = device_words(alloc, s.devices.as_slice())?;
+    let Ok(cpus) = cpu_configs(alloc, p, boot, boot_program.as_slice(), s, board) else {
+        return Err(AllocError);
+    };
+    let Ok(devices) = device_words(alloc, s.devices.as_slice()) else {
+        return Err(AllocError);
+    };
     Ok(Config {
         boot,
         boot_len,

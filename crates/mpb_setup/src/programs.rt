@@ -44,9 +44,13 @@ fn cpu_config(
 {
     let mut program = Vec::new(alloc);
     if id == boot {
-        program.extend_from_slice(boot_program)?;
+        let Ok(()) = program.extend_from_slice(boot_program) else {
+            return Err(AllocError);
+        };
     }
-    program.extend_from_slice(cpu_words(s.cpus.as_slice(), id))?;
+    let Ok(()) = program.extend_from_slice(cpu_words(s.cpus.as_slice(), id)) else {
+        return Err(AllocError);
+    };
     Ok(CpuConfig {
         id,
         version: version_in(p.processors.as_slice(), id),
@@ -68,7 +72,12 @@ pub fn cpu_configs(
 {
     let mut cpus = Vec::new(alloc);
     for id in ids {
-        cpus.push(cpu_config(alloc, p, boot, boot_program, s, *id)?)?;
+        let Ok(cpu) = cpu_config(alloc, p, boot, boot_program, s, *id) else {
+            return Err(AllocError);
+        };
+        let Ok(()) = cpus.push(cpu) else {
+            return Err(AllocError);
+        };
     }
     Ok(cpus)
 }
@@ -82,7 +91,12 @@ pub fn device_words(
 {
     let mut copies = Vec::new(alloc);
     for words in devices {
-        copies.push(Vec::from_slice(alloc, words.as_slice())?)?;
+        let Ok(copy) = Vec::from_slice(alloc, words.as_slice()) else {
+            return Err(AllocError);
+        };
+        let Ok(()) = copies.push(copy) else {
+            return Err(AllocError);
+        };
     }
     Ok(copies)
 }

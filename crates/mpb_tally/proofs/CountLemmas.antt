@@ -1,9 +1,9 @@
 -- How many hits a run has, and that a drill's board is only wanting where memory is.
-use Rattle.std.proofs.Common.{◌≡◌, ◌≤◌, ◌<◌, ◌^◌, ℕ, ◌+◌, List, [], ◌∷◌, ◌++◌, append_assoc, length, map, Result, Ok, Err, IfOk, OnOk, refl, sym, ap, ◌∙◌, arith}
+use Rattle.std.proofs.Common.{◌≡◌, ◌≤◌, ◌<◌, ◌^◌, ℕ, ◌+◌, List, [], ◌∷◌, ◌++◌, append_assoc, length, map, take, get_or, Result, Ok, Err, IfOk, OnOk, refl, sym, ap, ◌∙◌, arith}
 use Rattle.std.specs.Prelude.{sum_by}
 use Rattle.std.specs.List.{concat}
 use Rattle.std.proofs.lemmas.List.{length-map, append-nil}
-use Rattle.std.proofs.lemmas.List.Sums.{sum_by-cons}
+use Rattle.std.proofs.lemmas.List.Sums.{sum_by-cons, sum_by_more}
 use Rattle.mpb_spec.specs.declared.config.DevWord.{DevWord}
 use Rattle.mpb_spec.specs.declared.config.DevWord.TheVariants as word
 use Rattle.mpb_spec.specs.declared.entry.Entry.{Entry}
@@ -82,3 +82,10 @@ no_refusal (fault.BootAbsent id) c h = absurd h
 no_refusal (fault.ManyCpus n) c h = absurd h
 no_refusal (fault.ManyIo n) c h = absurd h
 no_refusal (fault.NoIo place) c h = absurd h
+
+-- a sum with what the next one adds
+pub sum_on : {X : Type 0} (f : X → ℕ) (xs : List X) (i : ℕ) (x : X) (sum n : ℕ) → i < length xs → x ≡ get_or xs i x → sum ≡ sum_by f (take i xs) → n ≡ f x → sum + n ≡ sum_by f (take (i + 1) xs)
+sum_on f xs i x sum n within is so_far here =
+    let more = sum_by_more f xs i x within in
+    let same = ap f is in
+    omega (arith, more, same, so_far, here)

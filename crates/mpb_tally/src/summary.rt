@@ -158,18 +158,28 @@ fn text(alloc: Global, n: u32, routes: u64, tally: Tally) -> Result<Vec<u8>, All
     ensures { IfOk result (λ text. text.items ≡ summary_of n routes tally) }
 {
     let mut out = Vec::new(alloc);
+    match push_summary(&mut out, n, routes, tally) {
+        Ok(()) => Ok(out),
+        Err(error) => Err(error),
+    }
+}
+
+fn push_summary(out: &mut Vec<u8>, n: u32, routes: u64, tally: Tally) -> Result<(), AllocError>
+    ensures { OnOk result (out.new.items ≡ out.old.items ++ summary_of n routes tally) }
+{
     let processors = u64::from(2 + n % 7);
     let ioapics = u64::from(1 + n % 4);
-    push_sizes(
-        &mut out,
+    match push_sizes(
+        out,
         u64::from(n),
         processors,
         tally.started,
         ioapics,
         routes,
-    )?;
-    push_counts(&mut out, tally)?;
-    Ok(out)
+    ) {
+        Ok(()) => push_counts(out, tally),
+        Err(error) => Err(error),
+    }
 }
 
 // the lines of the sizes
@@ -183,8 +193,10 @@ fn push_sizes(
 ) -> Result<(), AllocError>
     ensures { OnOk result (out.new.items ≡ out.old.items ++ concat (size_lines n processors started ioapics routes)) }
 {
-    push_line(out, &[Part::Text(b"drill "), Part::Decimal(n)])?;
-    push_line(
+    if let Err(error) = push_line(out, &[Part::Text(b"drill "), Part::Decimal(n)]) {
+        return Err(error);
+    }
+    if let Err(error) = push_line(
         out,
         &[
             Part::Text(b"processors "),
@@ -192,7 +204,9 @@ fn push_sizes(
             Part::Text(b" started "),
             Part::Decimal(started),
         ],
-    )?;
+    ) {
+        return Err(error);
+    }
     push_line(
         out,
         &[
@@ -208,11 +222,13 @@ fn push_sizes(
 fn push_counts(out: &mut Vec<u8>, tally: Tally) -> Result<(), AllocError>
     ensures { OnOk result (out.new.items ≡ out.old.items ++ concat (count_lines tally)) }
 {
-    push_line(
+    if let Err(error) = push_line(
         out,
         &[Part::Text(b"entries "), Part::Decimal(tally.entries)],
-    )?;
-    push_line(
+    ) {
+        return Err(error);
+    }
+    if let Err(error) = push_line(
         out,
         &[
             Part::Text(b"pulses "),
@@ -222,8 +238,10 @@ fn push_counts(out: &mut Vec<u8>, tally: Tally) -> Result<(), AllocError>
             Part::Text(b" merged "),
             Part::Decimal(tally.merged),
         ],
-    )?;
-    push_line(
+    ) {
+        return Err(error);
+    }
+    if let Err(error) = push_line(
         out,
         &[
             Part::Text(b"set "),
@@ -231,6 +249,8 @@ fn push_counts(out: &mut Vec<u8>, tally: Tally) -> Result<(), AllocError>
             Part::Text(b" taken "),
             Part::Decimal(tally.takes),
         ],
-    )?;
+    ) {
+        return Err(error);
+    }
     push_line(out, &[Part::Text(b"end")])
 }

@@ -1,6 +1,6 @@
 use Rattle.std.proofs.Common.{ap, sym, ◌∙◌, Some}
 use Rattle.mpb_spec.specs.Pulses.{pulses_of, pulses_in}
-use Rattle.mpb_replay.proofs.PlaceLemmas.{got_one, got_two, got_none_two, both, left}
+use Rattle.mpb_replay.proofs.PlaceLemmas.{got_one, got_two, got_none, got_none_two, both, left, right, neither}
 use Rattle.mpb_replay.proofs.logs.is_log_right.Goals as goal
 
 pub returns-in-Some-get : goal.returns-in-Some-get
@@ -15,3 +15,13 @@ returns-in-None-get c =
     left (pulses_of c.in-Some.log.now) _ _
     (got_one pulses_of c.args.number c.args.logs.now c.in-Some.log.now c.in-Some.ensures.lookup.3.0 c.in-Some.ensures.lookup.1)
     (got_none_two pulses_in (λ words. words.items) c.args.number c.args.devices.now c.in-None-get.ensures.lookup.0)
+
+pub returns-in-Some-get-2 : goal.returns-in-Some-get-2
+returns-in-Some-get-2 c =
+    right (pulses_in c.in-Some-get-2.field-0.now.items) _ _ (got_none pulses_of c.args.number c.args.logs.now c.in-None.ensures.lookup.0)
+    (got_two pulses_in (λ words. words.items) c.args.number c.args.devices.now c.in-Some-get-2.field-0.now c.in-Some-get-2.ensures.lookup.3.0 c.in-Some-get-2.ensures.lookup.1)
+
+pub returns-in-None-get-2 : goal.returns-in-None-get-2
+returns-in-None-get-2 c =
+    neither _ _ (got_none pulses_of c.args.number c.args.logs.now c.in-None.ensures.lookup.0)
+    (got_none_two pulses_in (λ words. words.items) c.args.number c.args.devices.now c.in-None-get-2.ensures.lookup.0)

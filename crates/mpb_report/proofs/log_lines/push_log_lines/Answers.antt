@@ -11,7 +11,7 @@ loop-number-preserved c =
     let out = c.args.out.now.items in
     let logs = c.args.logs.now in
     let n = c.loop-number.number in
-    c.in_ok-push_log_line.ensures
+    c.in_default.ensures
     ∙ ap (λ t. t ++ log_line n c.as_slice.result.now) c.loop-number.invariant
     ∙ ap (λ log. (out ++ concat (numbered (λ k l. log_line k l.items) 0 (take n logs))) ++ log_line n log) (c.as_slice.ensures.value ∙ ap (λ l. l.items) c.index-logs-number.is)
     ∙ numbered_more out (λ k l. log_line k l.items) logs n c.index-logs-number.result c.loop-number-test.true

@@ -1,4 +1,5 @@
 use Rattle.std.proofs.Common.{length, ◌++◌}
+use Rattle.std.proofs.lemmas.Result.{on_ok_weaker}
 use Rattle.std.specs.List.{concat}
 use Rattle.mpb_report_spec.specs.Numbered.{numbered}
 use Rattle.mpb_report_spec.specs.EntryLines.{entry_line}
@@ -6,10 +7,13 @@ use Rattle.mpb_report_spec.specs.Report.{title_line, count_line}
 use Rattle.mpb_report.proofs.PartLemmas.{written_behind}
 use Rattle.mpb_report.proofs.printing.push_journal.Goals as goal
 
-pub returns : goal.returns
-returns c =
+pub returns-in-Ok : goal.returns-in-Ok
+returns-in-Ok c =
     let entries = concat (numbered entry_line 0 c.args.journal.now) in
-    written_behind c.args.out.now.items title_line (count_line (length c.args.journal.now) ++ entries) c.push_line.new.out.items c.push_entry_lines.new.out.items
-    c.in_ok-push_line.ensures
-    (written_behind c.push_line.new.out.items (count_line (length c.args.journal.now)) entries c.push_line-2.new.out.items c.push_entry_lines.new.out.items
-    c.in_ok-push_line-2.ensures c.in_ok-push_entry_lines.ensures)
+    let count = count_line (length c.args.journal.now) in
+    let titled = c.push_line.new.out.items in
+    let counted = c.push_line-2.new.out.items in
+    let all = c.push_entry_lines.new.out.items in
+    on_ok_weaker c.push_entry_lines.result
+    (λ last. written_behind c.args.out.now.items title_line (count ++ entries) titled all c.in_default.ensures (written_behind titled count entries counted all c.in-Ok.ensures last))
+    c.push_entry_lines.ensures

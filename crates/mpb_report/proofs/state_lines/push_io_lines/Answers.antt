@@ -14,7 +14,7 @@ loop-place-preserved c =
     let ios : length c.behind-board.inside.ios.items ≡ length board.plan.ios = ap (λ p. length p.ios) (c.behind-board.view_is ∙ c.config.ensures.same) in
     let stay : length places ≡ length board.plan.ios = places_stay board.plan board.journal in
     let within : c.loop-place.place < length places = omega arith in
-    c.in_ok-push_found_io.ensures
+    c.in_default.ensures
     ∙ ap (λ (t : List ℕ). t ++ found_io c.loop-place.place (slice_get places c.loop-place.place)) c.loop-place.invariant
     ∙ found_more c.args.out.now.items places c.loop-place.place within
 

@@ -17,7 +17,7 @@ returns-in_default-clause-rest c = (run_stop pulse_in (length c.args.line.now - 
 
 pub loop-i-preserved : goal.loop-i-preserved
 loop-i-preserved c =
-    rw c.in_ok-push.ensures.items
+    rw c.in-Ok.ensures.items
     (run_more pulse_in (length c.args.line.now - c.loop-i._i) (length c.args.line.now - (c.loop-i._i + 1)) c.loop-i.pulses.items c.in-Some.pulse c.loop-i.rest.now c.in-Some.after.now _ _ (omega arith) c.loop-i.invariant c.in-Some.ensures)
 
 pub returns-clause-pulses : goal.returns-clause-pulses

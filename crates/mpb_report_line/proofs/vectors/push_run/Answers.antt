@@ -15,7 +15,7 @@ returns-in_default-clause-rest c = (run_stop (field_in (codes ",") 2) (255 - c.l
 
 pub loop-i-preserved : goal.loop-i-preserved
 loop-i-preserved c =
-    rw c.in_ok-push.ensures.items
+    rw c.in-Ok.ensures.items
     (run_more (field_in (codes ",") 2) (255 - c.loop-i._i) (255 - (c.loop-i._i + 1)) c.loop-i.vectors.items c.in-Some.vector c.loop-i.rest.now c.in-Some.after.now _ _ (omega arith) c.loop-i.invariant c.in-Some.ensures)
 
 pub returns-clause-vectors : goal.returns-clause-vectors

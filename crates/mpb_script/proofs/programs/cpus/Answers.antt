@@ -1,8 +1,8 @@
-use Rattle.std.proofs.Common.{◌+◌, List, map, sym, subst}
+use Rattle.std.proofs.Common.{◌+◌, List, map, refl, sym, subst, inl}
 use Rattle.toml.specs.View.{view}
 use Rattle.mpb_script.specs.Steps.{AreCpus}
 use Rattle.mpb_script.specs.declared.script.CpuScript.{CpuScript}
-use Rattle.mpb_script.proofs.TableLemmas.{CpusSoFar, cpu_on, cpus_all, words_fit}
+use Rattle.mpb_script.proofs.TableLemmas.{CpusSoFar, cpu_on, cpu_wrong, cpus_all, words_fit}
 use Rattle.mpb_script.proofs.programs.cpus.Goals as goal
 
 pub cpu_program-requires : goal.cpu_program-requires
@@ -18,3 +18,14 @@ loop-table-preserved c =
 
 pub returns-clause-cpus : goal.returns-clause-cpus
 returns-clause-cpus c = subst (λ (cs : List CpuScript). AreCpus (map view c.args.tables.now) cs) (sym c.new.ensures) (cpus_all c.loop-table.cpus.items c.args.tables.now c.loop-table.table-index c.loop-table-test.false c.loop-table.invariant)
+
+pub loop-table-init : goal.loop-table-init
+loop-table-init c = subst (λ (cs : List CpuScript). CpusSoFar cs c.args.tables.now 0) (sym c.new-cpus.ensures.items) (refl, refl, refl)
+
+pub returns-in-Err-clause-wrong : goal.returns-in-Err-clause-wrong
+returns-in-Err-clause-wrong c =
+    cpu_wrong c.args.tables.now c.loop-table.table-index c.table-item.result c.elements_at-words.result.now c.number_at-id.result c.in-Err.fault c.loop-table-test.true c.table-item.is c.number_at-id.ensures.value c.elements_at-words.ensures
+    c.loop-table.invariant.2 c.in-Err.ensures.wrong
+
+pub returns-in-Err-push-clause-wrong : goal.returns-in-Err-push-clause-wrong
+returns-in-Err-push-clause-wrong c = inl refl

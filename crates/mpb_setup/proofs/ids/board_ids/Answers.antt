@@ -3,13 +3,13 @@ use Rattle.mpb_spec.specs.Numbers.{has}
 use Rattle.mpb_setup.specs.Board.{all_ids, is_present}
 use Rattle.mpb_setup.proofs.ListLemmas.{filter-grows, filter-stays, filter-all}
 use Rattle.mpb_setup.proofs.ids.board_ids.Goals as goal
-use Rattle.mpb_setup.proofs.ids.board_ids.Goals.{then-is_on_board+in_ok-push, else-is_on_board}
+use Rattle.mpb_setup.proofs.ids.board_ids.Goals.{then-is_on_board+in-Ok, else-is_on_board}
 
 pub loop-n-preserved : goal.loop-n-preserved
 loop-n-preserved c =
     let f = λ (id : ℕ). has id c.args.enabled.now && is_present c.args.s.now.present id in
     elim c.if-is_on_board.branch [
-      | then-is_on_board+in_ok-push w ↦ filter-grows f c.loop-n.n c.loop-n.ids.items c.if-is_on_board.ids.items (sym c.is_on_board.ensures ∙ w.if-is_on_board.true) (ap (λ v. v.items) w.ids-is ∙ w.in_ok-push.ensures.items) c.loop-n.invariant
+      | then-is_on_board+in-Ok w ↦ filter-grows f c.loop-n.n c.loop-n.ids.items c.if-is_on_board.ids.items (sym c.is_on_board.ensures ∙ w.if-is_on_board.true) (ap (λ v. v.items) w.ids-is ∙ w.in-Ok.ensures.items) c.loop-n.invariant
       | else-is_on_board w ↦ filter-stays f c.loop-n.n c.loop-n.ids.items c.if-is_on_board.ids.items (sym c.is_on_board.ensures ∙ w.if-is_on_board.false) (ap (λ v. v.items) w.ids-is) c.loop-n.invariant
     ]
 

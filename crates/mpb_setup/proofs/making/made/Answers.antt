@@ -23,7 +23,7 @@ overflow_cast-boot_len c =
     let p = c.args.p.now in
     let s = c.args.s.now in
     let short = boot_short p s.elcr s.page c.requires.bytes (no_fault p s c.requires.no_fault).processors in
-    let long : length c.in_ok-boot_program.boot_program.items ≡ length (boot_program_of p (routes_of p s.elcr) s.page) = ap length (c.in_ok-boot_program.ensures ∙ ap (λ (answers : List Answer). boot_program_of p answers s.page) c.requires.answers) in
+    let long : length c.in-Ok.boot_program.items ≡ length (boot_program_of p (routes_of p s.elcr) s.page) = ap length (c.in-Ok.ensures ∙ ap (λ (answers : List Answer). boot_program_of p answers s.page) c.requires.answers) in
     omega (arith, short, long, c.len-boot_len.ensures)
 
 abbrev plan : ℕ → ℕ → List CpuPlan → List ℕ → Bool → List (List DevWord) → Plan
@@ -44,9 +44,9 @@ invariant_of-result c =
     let p = c.args.p.now in
     let s = c.args.s.now in
     let routed = ap (λ (answers : List Answer). boot_program_of p answers s.page) c.requires.answers in
-    let ops : c.in_ok-boot_program.boot_program.items ≡ boot_program_of p (routes_of p s.elcr) s.page = c.in_ok-boot_program.ensures ∙ routed in
+    let ops : c.in-Ok.boot_program.items ≡ boot_program_of p (routes_of p s.elcr) s.page = c.in-Ok.ensures ∙ routed in
     let long : c.len-boot_len.result ≡ length (boot_program_of p (routes_of p s.elcr) s.page) = omega (arith, c.len-boot_len.ensures, ap length ops) in
-    let cpus : c.in_ok-cpus.cpus.items ≡ map (cpu_plan_of p (boot_program_of p (routes_of p s.elcr) s.page) s) (board_ids p s) =
-    c.in_ok-cpus.ensures ∙ ap (λ (xs : List Op). map (cpu_plan_of p xs s) c.args.board.now) (c.as_slice.ensures.value ∙ ops) ∙ ap (map (cpu_plan_of p (boot_program_of p (routes_of p s.elcr) s.page) s)) c.requires.board in
-    let devices = c.in_ok-devices.ensures ∙ c.as_slice-2.ensures in
+    let cpus : c.in-Ok-cpu_configs.cpus.items ≡ map (cpu_plan_of p (boot_program_of p (routes_of p s.elcr) s.page) s) (board_ids p s) =
+    c.in-Ok-cpu_configs.ensures ∙ ap (λ (xs : List Op). map (cpu_plan_of p xs s) c.args.board.now) (c.as_slice.ensures.value ∙ ops) ∙ ap (map (cpu_plan_of p (boot_program_of p (routes_of p s.elcr) s.page) s)) c.requires.board in
+    let devices = c.in-Ok-device_words.ensures ∙ c.as_slice-2.ensures in
     subst IsConfig (sym (same_plan _ _ _ _ _ _ _ _ p.imcr _ _ c.boot_id-boot.ensures long cpus c.requires.ios devices)) (config_right p s c.requires.no_fault c.requires.values)
