@@ -202,7 +202,9 @@ fn push_interrupts(
     requires few { length p.now.processors ≤ 255 }
     ensures { OnOk result (out.new.items ≡ out.old.items ++ interrupts_of p.now answers.now) }
 {
-    push_overrides(out, p, answers)?;
+    let Ok(()) = push_overrides(out, p, answers) else {
+        return Err(AllocError);
+    };
     push_nmis(out, p.processors.as_slice(), p.lints.as_slice())
 }
 

@@ -40,15 +40,6 @@ fn front_of(madt: &Madt, size: u32) -> [u8; 10]
     bytes
 }
 
-// the OEM revision
-fn word_of(number: u32) -> [u8; 4]
-    ensures { result ≡ to_le_bytes w32 number }
-{
-    let mut bytes = [0; 4];
-    put_u32(&mut bytes, 0, number);
-    bytes
-}
-
 // the twelve bytes behind the creator id
 fn back_of(madt: &Madt) -> [u8; 12]
     ensures { result ≡ back_bytes madt.now }
@@ -60,38 +51,46 @@ fn back_of(madt: &Madt) -> [u8; 12]
     bytes
 }
 
-// appends the 44 bytes of the header with this length, its checksum still zero
-fn push_header(out: &mut Vec<u8>, madt: &Madt, size: u32) -> Result<(), NoMemory>
-    ensures bytes { OnOk result (out.new.items ≡ out.old.items ++ header_bytes madt.now size 0) }
-    ensures size { OnOk result (length out.new.items ≡ length out.old.items + 44) }
+// the 44 bytes of the header with this length, its checksum still zero
+fn header_of(madt: &Madt, size: u32) -> [u8; 44]
+    ensures { result ≡ header_bytes madt.now size 0 }
 {
-    append(out, &front_of(madt, size))?;
-    append(out, &madt.oem)?;
-    append(out, &madt.table)?;
-    append(out, &word_of(madt.oem_revision))?;
-    append(out, &madt.creator)?;
-    append(out, &back_of(madt))?;
-    Ok(())
+    let mut bytes = [0; 44];
+    put_bytes(&mut bytes, 0, &front_of(madt, size));
+    put_bytes(&mut bytes, 10, &madt.oem);
+    put_bytes(&mut bytes, 16, &madt.table);
+    put_u32(&mut bytes, 24, madt.oem_revision);
+    put_bytes(&mut bytes, 28, &madt.creator);
+    put_bytes(&mut bytes, 32, &back_of(madt));
+    bytes
+}
+
+// appends the header with this length, its checksum still zero, and the entries
+fn push_table(out: &mut Vec<u8>, madt: &Madt, size: u32) -> Result<(), NoMemory>
+    requires lawful { AllByRecursion IsLawfulEntry madt.now.entries }
+    ensures { OnOk result (out.new.items ≡ out.old.items ++ header_bytes madt.now size 0 ++ flat_map entry_bytes madt.now.entries) }
+{
+    let Ok(()) = append(out, &header_of(madt, size)) else {
+        return Err(NoMemory);
+    };
+    push_entries(out, madt.entries.as_slice())
 }
 
 // the table, its checksum still zero
 fn open_table(alloc: Global, madt: &Madt) -> Result<Vec<u8>, NoMemory>
     requires lawful { IsLawfulMadt madt.now }
-    ensures bytes { IfOk result (λ bytes. bytes.items ≡ madt_with madt.now 0) }
-    ensures size { IfOk result (λ bytes. length bytes.items ≡ madt_size madt.now) }
+    ensures { IfOk result (λ bytes. bytes.items ≡ madt_with madt.now 0) }
 {
     let size = madt_size(madt) as u32;
     let mut out = Vec::new(alloc);
-    push_header(&mut out, madt, size)?;
-    push_entries(&mut out, madt.entries.as_slice())?;
+    push_table(&mut out, madt, size)?;
     Ok(out)
 }
 
 // the table with its checksum
 fn table_bytes(alloc: Global, madt: &Madt) -> Result<Vec<u8>, NoMemory>
     requires lawful { IsLawfulMadt madt.now }
-    ensures bytes { IfOk result (λ bytes. bytes.items ≡ madt_bytes madt.now) }
-    ensures size { IfOk result (λ bytes. length bytes.items ≡ madt_size madt.now) }
+    ensures { IfOk result (λ bytes. bytes.items ≡ madt_bytes madt.now) }
 {
     let mut bytes = open_table(alloc, madt)?;
     seal8(bytes.as_mut_slice(), CHECKSUM_AT);

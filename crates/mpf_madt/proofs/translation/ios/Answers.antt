@@ -1,5 +1,7 @@
 use Rattle.std.proofs.Common.{◌*◌, ◌<◌, length, ap, sym, ◌∙◌, arith}
+use Rattle.std.proofs.lemmas.List.{take_all}
 use Rattle.mpt_spec.specs.declared.entry.IoApic.{IoApic}
+use Rattle.mpf_madt.specs.Translation.{ios_of}
 use Rattle.mpf_madt.proofs.TranslationLemmas.{io_pushed, io_passed}
 use Rattle.mpf_madt.proofs.translation.ios.Goals as goal
 use Rattle.mpf_madt.proofs.translation.ios.Goals.{then-is_enabled+in_ok-push, else-is_enabled}
@@ -25,3 +27,9 @@ loop-io-preserved c =
         omega (arith, was.1, ap (λ v. length v.items) w.entries-is),
       )
     ]
+
+pub loop-io-init : goal.loop-io-init
+loop-io-init c = (c.new-entries.ensures.items, omega (arith, ap length c.new-entries.ensures.items))
+
+pub returns : goal.returns
+returns c = c.loop-io.invariant.0 ∙ ap ios_of (take_all c.loop-io.io-index c.args.ios.now c.loop-io-test.false)

@@ -1,4 +1,4 @@
-use Rattle.std.proofs.Common.{ℕ, ap, sym, ◌∙◌}
+use Rattle.std.proofs.Common.{ℕ, ap, sym, ◌∙◌, append-nil, arith, ◌≡◌}
 use Rattle.std.specs.Prelude.{Option}
 use Rattle.mpf_madt.specs.declared.madt.MadtEntry.{MadtEntry}
 use Rattle.mpf_madt.specs.Lines.{source_of}
@@ -17,3 +17,11 @@ loop-irq-preserved c =
       | in-Some+in_ok-push w ↦ number_appends g i w.in-Some.entry c.args.out.now.items c.loop-irq.out.items c.match-override_for.out.items (here ∙ w.in-Some.is) c.loop-irq.invariant (ap (λ v. v.items) w.out-is ∙ w.in_ok-push.ensures.items)
       | in_default w ↦ number_leaves g i c.args.out.now.items c.loop-irq.out.items c.match-override_for.out.items (here ∙ none_of c.override_for.result w.in_default.not-Some) (ap (λ v. v.items) w.out-is) c.loop-irq.invariant
     ]
+
+pub loop-irq-init : goal.loop-irq-init
+loop-irq-init c = sym (append-nil c.args.out.now.items)
+
+pub returns : goal.returns
+returns c =
+    let all : c.loop-irq.irq ≡ 16 = omega arith in
+    rw all at c.loop-irq.invariant
