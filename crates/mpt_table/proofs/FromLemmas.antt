@@ -182,10 +182,10 @@ pub area_place : (size : ℕ) (area : Area) (bytes : List ℕ) (r : Option Found
     → (area.from % 16 ≡ 0 → IfSome r (λ f. f.at % 16 ≡ 0)) → IfSome r (λ f. f.at + 16 ≤ area.from + length bytes) → IfSome r (λ f. IsPlaceIn size f.at)
 area_place size area bytes None is all some paragraph inside = tt
 area_place size area bytes (Some f) is all some paragraph inside = record {
-    paragraph = elim is.paragraph [ inl h ↦ paragraph h | inr none ↦ absurd (omega (arith, none, all, inside, some.0)) ];
-    inside = omega (arith, is.inside, is.order, all, inside);
-    low = omega (arith, is.low, is.order, all, inside);
-  }
+  paragraph = elim is.paragraph [ inl h ↦ paragraph h | inr none ↦ absurd (omega (arith, none, all, inside, some.0)) ];
+  inside = omega (arith, is.inside, is.order, all, inside);
+  low = omega (arith, is.low, is.order, all, inside);
+}
 
 -- the areas behind one without any
 pub passed-next : (told : Option Files) (name : List ℕ) (here : Area) (rest : List Area) (whole : List ℕ) → IfTold told name (λ image. HoldsAtNone (HasPointerAt image) (places_in here))

@@ -1,5 +1,5 @@
 -- What calls keep of a shelf, one after the other.
-use Rattle.std.proofs.Common.{◌≡◌, ◌≢◌, ℕ, ◌+◌, ◌≤◌, Result, Ok, Err, arith}
+use Rattle.std.proofs.Common.{◌≡◌, ◌≢◌, ℕ, ◌+◌, ◌-◌, ◌≤◌, Result, Ok, Err, arith}
 
 -- a success is no failure
 pub ok_no_err : {A E : Type 0} (x : A) (e : E) → Ok x ≢ Err e
@@ -33,3 +33,10 @@ asks_areas start mid now own rest all p q = omega arith
 
 pub asks_next : (start mid now own rest all : ℕ) → mid + (own + rest) ≤ start + all → now ≤ mid + own → now + rest ≤ start + all
 asks_next start mid now own rest all p q = omega arith
+
+-- the room that a size leaves behind a place
+pub room_left : (at n size : ℕ) → at + n ≤ size → n ≤ size - at
+room_left at n size p = omega arith
+
+pub in_room : (at n size least : ℕ) → at + least ≤ size → n ≤ size - at → at + n ≤ size
+in_room at n size least p q = omega arith

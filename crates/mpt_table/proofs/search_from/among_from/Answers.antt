@@ -1,9 +1,8 @@
-use Rattle.std.proofs.Common.{◌+◌, ◌-◌, ◌∙◌, get_or, drop, arith}
+use Rattle.std.proofs.Common.{◌+◌, ◌∙◌, get_or, drop, arith}
 use Rattle.std.specs.List.{flat_map}
 use Rattle.std.proofs.lemmas.List.{drop_more, drop_all}
 use Rattle.mpt_spec.specs.declared.pointer.Area.{Area}
 use Rattle.mpt_spec.specs.Search.{places_in}
-use Rattle.mpt_table.specs.Windows.{area_bytes}
 use Rattle.mpt_table.proofs.FromLemmas.{passed-next, found_behind, none_of_all}
 use Rattle.mpt_table.proofs.ShelfLemmas.{ok_no_err, asks_areas, asks_next}
 use Rattle.mpt_table.proofs.search_from.among_from.Goals as goal

@@ -2,7 +2,8 @@ use Rattle.std.proofs.Common.{◌+◌, ◌<◌, ◌∙◌, ap, length, Err, refl
 use Rattle.mpt_spec.specs.Faults.{HasTableFaultAt, IsLeastFault}
 use Rattle.mpt_table.specs.Windows.{IfTold}
 use Rattle.mpt_table.proofs.FromLemmas.{HasTableBytes-told, table_ok, table_err, fault_before, no_fault}
-use Rattle.mpt_table.proofs.ShelfLemmas.{ok_no_err, same_err, rises, asks_both, asks_more}
+use Rattle.mpt_table.proofs.WordFromLemmas.{IsInsideTold-size}
+use Rattle.mpt_table.proofs.ShelfLemmas.{room_left, in_room, ok_no_err, same_err, rises, asks_both, asks_more}
 use Rattle.mpt_table.proofs.table_from.table_from.Goals as goal
 
 pub returns-in-Ok-window : goal.returns-in-Ok-window
@@ -28,7 +29,7 @@ returns-in-Ok-window g c =
       table = table_ok told name bytes at c.table_in.result same (rw all at table.table);
       fault = table_err told name bytes at c.table_in.result same table.behind (rw all at table.fault);
       well_formed = table.well_formed;
-      inside = fault_before c.table_in.result (at + length bytes) c.args.size (omega (arith, own.all, c.table_bytes.ensures.inside, c.requires.inside)) (rw all at table.inside);
+      inside = fault_before c.table_in.result (at + length bytes) c.args.size (rw own.all (in_room at c.table_bytes.result c.args.size 44 c.requires.inside c.table_bytes.ensures.inside)) (rw all at table.inside);
       refusal = table.refusal;
     }
 
@@ -48,4 +49,26 @@ returns-in-Err g c =
       well_formed = tt;
       inside = no_fault c.refusal_of.result (λ f. f.at < c.args.size) refusal.fault;
       refusal = refusal.refusal;
+    }
+
+pub window-requires : goal.window-requires
+window-requires g c = record { inside = IsInsideTold-size (g.S.Shelf.files c.args.shelf.now) c.args.name.now c.args.size c.args.at 44 c.requires.told c.requires.inside }
+
+pub table_bytes-requires : goal.table_bytes-requires
+table_bytes-requires g c = record {
+  header = ap length c.deref.ensures.value ∙ c.in-Ok.ensures.all;
+  room = room_left c.args.at 44 c.args.size c.requires.inside;
+}
+
+pub window-requires-2 : goal.window-requires-2
+window-requires-2 g c = record {
+  inside = IsInsideTold-size (g.S.Shelf.files c.window.new.shelf) c.args.name.now c.args.size c.args.at c.table_bytes.result (rw c.in-Ok.ensures.files_stay c.requires.told) (in_room c.args.at c.table_bytes.result c.args.size 44 c.requires.inside c.table_bytes.ensures.inside);
+}
+
+pub table_in-requires : goal.table_in-requires
+table_in-requires g c =
+    let long = ap length c.deref-in-Ok-window.ensures.value ∙ c.in-Ok-window.ensures.all in
+    record {
+      header = rw long c.table_bytes.ensures.header;
+      fits = rw long (omega (arith, in_room c.args.at c.table_bytes.result c.args.size 44 c.requires.inside c.table_bytes.ensures.inside));
     }
