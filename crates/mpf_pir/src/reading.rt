@@ -56,7 +56,9 @@ fn slots_of(alloc: Global, bytes: &[u8]) -> Result<Vec<Slot>, PirRefusal>
     let mut slots = Vec::new(alloc);
     let mut at = HEADER_SIZE;
     while at < bytes.len() {
-        slots.push(slot_at(bytes, at))?;
+        let Ok(()) = slots.push(slot_at(bytes, at)) else {
+            return Err(PirRefusal::NoMemory);
+        };
         at += SLOT_SIZE;
     }
     Ok(slots)
@@ -73,6 +75,9 @@ pub fn read_pir(alloc: Global, bytes: &[u8]) -> Result<Pir, PirRefusal>
     if let Some((at, why)) = fault_of(bytes) {
         return Err(PirRefusal::Fault { at, why });
     }
-    let slots = slots_of(alloc, bytes)?;
+    let slots = match slots_of(alloc, bytes) {
+        Ok(slots) => slots,
+        Err(refusal) => return Err(refusal),
+    };
     Ok(header_layout!(read_header, bytes, slots))
 }
