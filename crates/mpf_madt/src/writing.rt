@@ -24,7 +24,9 @@ fn push_entries(out: &mut Vec<u8>, entries: &[MadtEntry]) -> Result<(), NoMemory
     ensures { OnOk result (out.new.items ≡ out.old.items ++ flat_map entry_bytes entries.now) }
 {
     for entry in entries {
-        write_entry(out, entry)?;
+        let Ok(()) = write_entry(out, entry) else {
+            return Err(NoMemory);
+        };
     }
     Ok(())
 }
@@ -83,8 +85,10 @@ fn open_table(alloc: Global, madt: &Madt) -> Result<Vec<u8>, NoMemory>
 {
     let size = madt_size(madt) as u32;
     let mut out = Vec::new(alloc);
-    push_table(&mut out, madt, size)?;
-    Ok(out)
+    match push_table(&mut out, madt, size) {
+        Ok(()) => Ok(out),
+        Err(_) => Err(NoMemory),
+    }
 }
 
 // the table with its checksum
@@ -92,7 +96,9 @@ fn table_bytes(alloc: Global, madt: &Madt) -> Result<Vec<u8>, NoMemory>
     requires lawful { IsLawfulMadt madt.now }
     ensures { IfOk result (λ bytes. bytes.items ≡ madt_bytes madt.now) }
 {
-    let mut bytes = open_table(alloc, madt)?;
+    let Ok(mut bytes) = open_table(alloc, madt) else {
+        return Err(NoMemory);
+    };
     seal8(bytes.as_mut_slice(), CHECKSUM_AT);
     Ok(bytes)
 }
@@ -106,6 +112,8 @@ pub fn write_madt(alloc: Global, madt: &Madt) -> Result<Vec<u8>, NoMemory>
     ensures only { (bytes : List ℕ) → IsByteList bytes → IsMadt madt.now bytes → IfOk result (λ written. written.items ≡ bytes) }
 {
     madt_value(madt);
-    let bytes = table_bytes(alloc, madt)?;
+    let Ok(bytes) = table_bytes(alloc, madt) else {
+        return Err(NoMemory);
+    };
     Ok(bytes)
 }

@@ -4,7 +4,7 @@ use Rattle.mpt_spec.specs.declared.entry.IoApic.{IoApic}
 use Rattle.mpf_madt.specs.Translation.{ios_of}
 use Rattle.mpf_madt.proofs.TranslationLemmas.{io_pushed, io_passed}
 use Rattle.mpf_madt.proofs.translation.ios.Goals as goal
-use Rattle.mpf_madt.proofs.translation.ios.Goals.{then-is_enabled+in_ok-push, else-is_enabled}
+use Rattle.mpf_madt.proofs.translation.ios.Goals.{then-is_enabled+in-Ok, else-is_enabled}
 
 -- what the code's indexing names past the end
 d : IoApic
@@ -18,9 +18,9 @@ loop-io-preserved c =
     let inside : i < length es = omega (arith, c.loop-io-test.true) in
     let was = c.loop-io.invariant in
     elim c.if-is_enabled.branch [
-      | then-is_enabled+in_ok-push w ↦ (
-        ap (λ v. v.items) w.entries-is ∙ io_pushed es i w.len-place.result (24 * w.len-place.result) d c.loop-io.entries.items w.push.new.self.items inside (sym c.is_enabled.ensures ∙ w.if-is_enabled.true) (omega arith) (omega arith) was.0 w.in_ok-push.ensures.items,
-        omega (arith, was.1, ap (λ v. length v.items) w.entries-is, w.in_ok-push.ensures.items),
+      | then-is_enabled+in-Ok w ↦ (
+        ap (λ v. v.items) w.entries-is ∙ io_pushed es i w.len-place.result (24 * w.len-place.result) d c.loop-io.entries.items w.push.new.self.items inside (sym c.is_enabled.ensures ∙ w.if-is_enabled.true) (omega arith) (omega arith) was.0 w.in-Ok.ensures.items,
+        omega (arith, was.1, ap (λ v. length v.items) w.entries-is, w.in-Ok.ensures.items),
       )
       | else-is_enabled w ↦ (
         ap (λ v. v.items) w.entries-is ∙ io_passed es i d c.loop-io.entries.items inside (sym c.is_enabled.ensures ∙ w.if-is_enabled.false) was.0,

@@ -5,7 +5,7 @@ use Rattle.mpf_madt.specs.Translation.{nmi_of, nmis_of}
 use Rattle.mpf_madt.proofs.FirstLemmas.{none_of}
 use Rattle.mpf_madt.proofs.TranslationLemmas.{member_appends, member_leaves}
 use Rattle.mpf_madt.proofs.translation.push_nmis.Goals as goal
-use Rattle.mpf_madt.proofs.translation.push_nmis.Goals.{in-Some+in_ok-push, in_default}
+use Rattle.mpf_madt.proofs.translation.push_nmis.Goals.{in-Some+in-Ok, in_default}
 
 -- what the code's indexing names past the end
 d : IntEntry
@@ -19,7 +19,7 @@ loop-e-preserved c =
     let inside : i < length es = omega (arith, c.loop-e-test.true) in
     let f = nmi_of c.args.processors.now in
     elim c.match-nmi_of.branch [
-      | in-Some+in_ok-push w ↦ member_appends f es i d w.in-Some.entry c.args.out.now.items c.loop-e.out.items c.match-nmi_of.out.items inside (sym c.nmi_of.ensures ∙ w.in-Some.is) c.loop-e.invariant (ap (λ v. v.items) w.out-is ∙ w.in_ok-push.ensures.items)
+      | in-Some+in-Ok w ↦ member_appends f es i d w.in-Some.entry c.args.out.now.items c.loop-e.out.items c.match-nmi_of.out.items inside (sym c.nmi_of.ensures ∙ w.in-Some.is) c.loop-e.invariant (ap (λ v. v.items) w.out-is ∙ w.in-Ok.ensures.items)
       | in_default w ↦ member_leaves f es i d c.args.out.now.items c.match-nmi_of.out.items inside (sym c.nmi_of.ensures ∙ none_of c.nmi_of.result w.in_default.not-Some) (ap (λ v. v.items) w.out-is ∙ c.loop-e.invariant)
     ]
 

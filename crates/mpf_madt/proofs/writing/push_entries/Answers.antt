@@ -11,7 +11,7 @@ loop-entry-preserved c =
     let i = c.loop-entry.entry-index in
     let e : MadtEntry = c.entry-item.result in
     let start = c.args.out.now.items in
-    c.in_ok-write_entry.ensures ∙ ap (λ text. text ++ entry_bytes e) c.loop-entry.invariant ∙ flat_map_more entry_bytes start (take i es) e
+    c.in-Ok.ensures ∙ ap (λ text. text ++ entry_bytes e) c.loop-entry.invariant ∙ flat_map_more entry_bytes start (take i es) e
     ∙ ap (λ (xs : List MadtEntry). start ++ flat_map entry_bytes xs) (ap (λ (x : MadtEntry). take i es ++ x ∷ []) c.entry-item.is ∙ sym (take_more es i e (omega (arith, c.loop-entry-test.true))))
 
 pub loop-entry-init : goal.loop-entry-init
