@@ -1,12 +1,12 @@
 -- The bytes that are written for a table are that table.
-use Rattle.std.proofs.Common.{◌≡◌, ℕ, ◌+◌, ◌^◌, ◌<◌, ◌≤◌, List, [], ◌∷◌, ◌++◌, length, sum, take, drop, set, sym, refl, ap, ◌∙◌, subst, arith, append_assoc, append-nil}
+use Rattle.std.proofs.Common.{◌≡◌, ℕ, ◌+◌, ◌^◌, ◌<◌, ◌≤◌, List, [], ◌∷◌, ◌++◌, length, sum, take, drop, replicate, set, sym, refl, ap, ◌∙◌, subst, arith, append_assoc, append-nil, drop-drop}
 use Rattle.std.specs.Prelude.{slice_index, codes, sum_by}
 use Rattle.std.specs.Int.{to_le_bytes, w32}
 use Rattle.std.specs.List.{AllByRecursion, flat_map}
-use Rattle.std.proofs.lemmas.List.{length-append, take-append-le, take_all}
+use Rattle.std.proofs.lemmas.List.{length-append, take-append-le, take_all, drop_at}
 use Rattle.std.proofs.lemmas.List.Sums.{sum_by-cons}
 use Rattle.mpt_base.specs.Bytes.{part, number_at}
-use Rattle.mpt_base.specs.Writing.{checksum_of}
+use Rattle.mpt_base.specs.Writing.{checksum_of, overlay}
 use Rattle.mpt_spec.proofs.ByteLemmas.{slice_index-append, number_at-append, part-append, slice_index-behind, number_at-behind, part-behind, take-append_whole, number_at-to_le_bytes_2, number_at-to_le_bytes_4, sum-cell, sealed}
 use Rattle.mpf_madt.specs.declared.madt.Madt.{Madt}
 use Rattle.mpf_madt.specs.declared.madt.MadtEntry.{MadtEntry}
@@ -154,10 +154,11 @@ sealed_madt m bytes h =
     ∙ ap (λ xs. set (madt_with m 0) 9 (checksum_of xs)) (set-madt_with m 0 0)
     ∙ set-madt_with m 0 (checksum_of (madt_with m 0))
 
-pub length-madt_with : (m : Madt) (checksum : ℕ) → IsMadtValue m → length (madt_with m checksum) ≡ madt_size m
-length-madt_with m checksum v =
+pub length-madt_bytes : (m : Madt) → IsMadtValue m → length (madt_bytes m) ≡ madt_size m
+length-madt_bytes m v =
     let entries : List ℕ = flat_map entry_bytes m.entries in
-    omega (arith, length-append (header_bytes m (44 + length entries) checksum) entries, length-header m (44 + length entries) checksum v.oem.0 v.table.0 v.creator.0, length-entries m.entries)
+    let header : List ℕ = header_bytes m (44 + length entries) (checksum_of (madt_with m 0)) in
+    omega (arith, length-append header entries, length-header m (44 + length entries) (checksum_of (madt_with m 0)) v.oem.0 v.table.0 v.creator.0, length-entries m.entries)
 
 -- the bytes of a table are the table
 pub IsMadt-written : (m : Madt) → IsMadtValue m → IsLawfulMadt m → IsMadt m (madt_bytes m)
@@ -179,12 +180,32 @@ IsMadt-written m v l =
       entries = moved m.entries (header ++ (entries ++ [])) (madt_bytes m) (length header) 44 (length header + length entries) (length (madt_bytes m)) (ap (λ x. header ++ x) (append-nil entries)) long (omega arith) tiles;
     }
 
+-- a piece that is put behind what is done
+put_next : (done rest left piece bytes : List ℕ) (at : ℕ) → bytes ≡ done ++ rest → length done ≡ at → drop (length piece) rest ≡ left → overlay bytes at piece ≡ done ++ piece ++ left
+put_next done rest left piece bytes at is there more =
+    ap (λ xs. overlay xs at piece) is
+    ∙ ap (λ xs. xs ++ piece ++ drop (at + length piece) (done ++ rest)) (take-append_whole at done rest there)
+    ∙ ap (λ xs. done ++ piece ++ xs) (sym (drop-drop (length piece) at (done ++ rest)) ∙ ap (λ xs. drop (length piece) xs) (drop_at done rest at there) ∙ more)
+
+six_joined : (a b c d e f : List ℕ) → a ++ b ++ c ++ d ++ e ++ f ++ [] ≡ a ++ (b ++ (c ++ (d ++ (e ++ f))))
+six_joined a b c d e f = simp (append_assoc, append-nil)
+
 -- the header in six pieces
-pub header_joined : (old v w x y z new front o t r c back : List ℕ) → v ≡ old ++ front → w ≡ v ++ o → x ≡ w ++ t → y ≡ x ++ r → z ≡ y ++ c → new ≡ z ++ back
-    → new ≡ old ++ (front ++ (o ++ (t ++ (r ++ (c ++ back)))))
-header_joined old v w x y z new front o t r c back hv hw hx hy hz hn =
-    let joined : (((((old ++ front) ++ o) ++ t) ++ r) ++ c) ++ back ≡ old ++ (front ++ (o ++ (t ++ (r ++ (c ++ back))))) = simp append_assoc refl in
-    hn ∙ ap (λ u. u ++ back) (hz ∙ ap (λ u. u ++ c) (hy ∙ ap (λ u. u ++ r) (hx ∙ ap (λ u. u ++ t) (hw ∙ ap (λ u. u ++ o) hv)))) ∙ joined
+pub header_put : (m : Madt) (size : ℕ) (v w x y z new : List ℕ) → length m.oem ≡ 6 → length m.table ≡ 8 → length m.creator ≡ 4
+    → v ≡ overlay (replicate 44 0) 0 (front_bytes m size 0) → w ≡ overlay v 10 m.oem → x ≡ overlay w 16 m.table → y ≡ overlay x 24 (to_le_bytes w32 m.oem_revision) → z ≡ overlay y 28 m.creator → new ≡ overlay z 32 (back_bytes m)
+    → new ≡ header_bytes m size 0
+header_put m size v w x y z new oem table creator hv hw hx hy hz hn =
+    let front : List ℕ = front_bytes m size 0 in
+    let word : List ℕ = to_le_bytes w32 m.oem_revision in
+    let second : w ≡ front ++ m.oem ++ replicate 28 0 = hw ∙ put_next front (replicate 34 0) (replicate 28 0) m.oem v 10 hv refl (ap (λ n. drop n (replicate 34 0)) oem) in
+    let long2 : length (front ++ m.oem) ≡ 16 = length-append front m.oem ∙ omega (arith, oem) in
+    let third : x ≡ front ++ m.oem ++ m.table ++ replicate 20 0 = hx ∙ put_next (front ++ m.oem) (replicate 28 0) (replicate 20 0) m.table w 16 second long2 (ap (λ n. drop n (replicate 28 0)) table) in
+    let long3 : length (front ++ m.oem ++ m.table) ≡ 24 = length-append (front ++ m.oem) m.table ∙ omega (arith, long2, table) in
+    let fourth : y ≡ front ++ m.oem ++ m.table ++ word ++ replicate 16 0 = hy ∙ put_next (front ++ m.oem ++ m.table) (replicate 20 0) (replicate 16 0) word x 24 third long3 refl in
+    let long4 : length (front ++ m.oem ++ m.table ++ word) ≡ 28 = length-append (front ++ m.oem ++ m.table) word ∙ omega (arith, long3) in
+    let fifth : z ≡ front ++ m.oem ++ m.table ++ word ++ m.creator ++ replicate 12 0 = hz ∙ put_next (front ++ m.oem ++ m.table ++ word) (replicate 16 0) (replicate 12 0) m.creator y 28 fourth long4 (ap (λ n. drop n (replicate 16 0)) creator) in
+    let long5 : length (front ++ m.oem ++ m.table ++ word ++ m.creator) ≡ 32 = length-append (front ++ m.oem ++ m.table ++ word) m.creator ∙ omega (arith, long4, creator) in
+    hn ∙ put_next (front ++ m.oem ++ m.table ++ word ++ m.creator) (replicate 12 0) [] (back_bytes m) z 32 fifth long5 refl ∙ six_joined front m.oem m.table word m.creator (back_bytes m)
 
 -- what was written through a slice of a whole vector is what the vector has
 pub written_back : (len : ℕ) (new items : List ℕ) → len ≡ length items → length new ≡ length items → take len (new ++ drop (length new) items) ≡ new

@@ -75,7 +75,9 @@ fn other_at(alloc: Global, bytes: &[u8], at: usize) -> Result<Opaque, AllocError
     ensures { IfOk result (λ e. IsOtherAt e bytes.now at) }
 {
     let end = at + bytes[at + 1] as usize;
-    let rest = Vec::from_slice(alloc, &bytes[at + 2..end])?;
+    let Ok(rest) = Vec::from_slice(alloc, &bytes[at + 2..end]) else {
+        return Err(AllocError);
+    };
     Ok(Opaque {
         kind: bytes[at],
         rest: Sequence::new(rest),
@@ -130,7 +132,10 @@ fn entry_at(alloc: Global, bytes: &[u8], at: usize, size: usize) -> Result<MadtE
         IO => Ok(io_at(bytes, at)),
         OVERRIDE => Ok(override_at(bytes, at)),
         NMI => Ok(nmi_at(bytes, at)),
-        _ => Ok(MadtEntry::Other(other_at(alloc, bytes, at)?)),
+        _ => match other_at(alloc, bytes, at) {
+            Ok(other) => Ok(MadtEntry::Other(other)),
+            Err(_) => Err(AllocError),
+        },
     }
 }
 
@@ -150,9 +155,16 @@ pub(crate) fn read_entries(
     let mut entries = Vec::new(alloc);
     let mut at = from;
     while at < to {
-        let size = length_at(bytes, at, to)?;
-        let entry = entry_at(alloc, bytes, at, size)?;
-        entries.push(entry)?;
+        let size = match length_at(bytes, at, to) {
+            Ok(size) => size,
+            Err(MadtFault { at, why }) => return Err(MadtRefusal::Fault { at, why }),
+        };
+        let Ok(entry) = entry_at(alloc, bytes, at, size) else {
+            return Err(MadtRefusal::NoMemory);
+        };
+        let Ok(()) = entries.push(entry) else {
+            return Err(MadtRefusal::NoMemory);
+        };
         at += size;
     }
     Ok(entries)

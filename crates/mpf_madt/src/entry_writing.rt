@@ -71,9 +71,13 @@ fn write_other(out: &mut Vec<u8>, other: &Opaque) -> Result<(), NoMemory>
     ensures { OnOk result (out.new.items ≡ out.old.items ++ entry_bytes (entry.Other other.now)) }
 {
     let rest = other.rest.as_slice();
-    append(out, &[other.kind, 2 + rest.len() as u8])?;
-    append(out, rest)?;
-    Ok(())
+    let Ok(()) = append(out, &[other.kind, 2 + rest.len() as u8]) else {
+        return Err(NoMemory);
+    };
+    match append(out, rest) {
+        Ok(()) => Ok(()),
+        Err(_) => Err(NoMemory),
+    }
 }
 
 /// Appends the bytes of an entry. After want of memory a part of them may stand behind what was there.

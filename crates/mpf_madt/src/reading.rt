@@ -85,9 +85,13 @@ fn answer(alloc: Global, bytes: &[u8]) -> Result<Madt, MadtRefusal>
     ensures table { IfOk result (λ m. IsMadt m bytes.now) }
     ensures fault { IfMadtFault result (λ k why. IsFirstMadtFault bytes.now k why) }
 {
-    check_header(bytes)?;
-    let entries = read_entries(alloc, bytes, HEADER_LENGTH, bytes.len())?;
-    Ok(madt_of(bytes, Sequence::new(entries)))
+    if let Err(MadtFault { at, why }) = check_header(bytes) {
+        return Err(MadtRefusal::Fault { at, why });
+    }
+    match read_entries(alloc, bytes, HEADER_LENGTH, bytes.len()) {
+        Ok(entries) => Ok(madt_of(bytes, Sequence::new(entries))),
+        Err(refusal) => Err(refusal),
+    }
 }
 
 /// The table that the bytes are, or the first of their faults: the one with the least offset, and of

@@ -40,11 +40,14 @@ fn locals(alloc: Global, processors: &[Processor]) -> Result<Vec<MadtEntry>, All
     let mut locals = Vec::new(alloc);
     for e in processors {
         let uid = locals.len() as u8;
-        locals.push(MadtEntry::Local {
+        let local = MadtEntry::Local {
             uid,
             apic: e.apic,
             flags: u32::from(e.flags % 2),
-        })?;
+        };
+        let Ok(()) = locals.push(local) else {
+            return Err(AllocError);
+        };
     }
     Ok(locals)
 }
@@ -58,12 +61,15 @@ fn ios(alloc: Global, ios: &[IoApic]) -> Result<Vec<MadtEntry>, AllocError>
     for io in ios {
         if io.is_enabled() {
             let place = entries.len() as u32;
-            entries.push(MadtEntry::Io {
+            let entry = MadtEntry::Io {
                 id: io.id,
                 reserved: 0,
                 address: io.address,
                 base: PINS * place,
-            })?;
+            };
+            let Ok(()) = entries.push(entry) else {
+                return Err(AllocError);
+            };
         }
     }
     Ok(entries)
@@ -110,7 +116,9 @@ fn push_overrides(
 {
     for irq in 0..16u8 {
         if let Some(entry) = override_for(irq, source(p, answers, irq)) {
-            out.push(entry)?;
+            let Ok(()) = out.push(entry) else {
+                return Err(AllocError);
+            };
         }
     }
     Ok(())
@@ -167,7 +175,9 @@ fn push_nmis(
 {
     for e in lints {
         if let Some(entry) = nmi_of(processors, *e) {
-            out.push(entry)?;
+            let Ok(()) = out.push(entry) else {
+                return Err(AllocError);
+            };
         }
     }
     Ok(())
@@ -177,8 +187,10 @@ fn push_nmis(
 fn joined(mut front: Vec<MadtEntry>, mut back: Vec<MadtEntry>) -> Result<Vec<MadtEntry>, AllocError>
     ensures { IfOk result (λ es. es.items ≡ front.items ++ back.items) }
 {
-    front.append(&mut back)?;
-    Ok(front)
+    match front.append(&mut back) {
+        Ok(()) => Ok(front),
+        Err(_) => Err(AllocError),
+    }
 }
 
 // the APICs
@@ -187,10 +199,16 @@ fn apics(alloc: Global, p: &Platform) -> Result<Vec<MadtEntry>, AllocError>
     requires small { IsSmallPlatform p.now }
     ensures { IfOk result (λ es. es.items ≡ apics_of p.now) }
 {
-    let locals = locals(alloc, p.processors.as_slice())?;
-    let ios = ios(alloc, p.ios.as_slice())?;
-    let apics = joined(locals, ios)?;
-    Ok(apics)
+    let Ok(locals) = locals(alloc, p.processors.as_slice()) else {
+        return Err(AllocError);
+    };
+    let Ok(ios) = ios(alloc, p.ios.as_slice()) else {
+        return Err(AllocError);
+    };
+    match joined(locals, ios) {
+        Ok(apics) => Ok(apics),
+        Err(_) => Err(AllocError),
+    }
 }
 
 // appends the interrupts
@@ -202,7 +220,9 @@ fn push_interrupts(
     requires few { length p.now.processors ≤ 255 }
     ensures { OnOk result (out.new.items ≡ out.old.items ++ interrupts_of p.now answers.now) }
 {
-    push_overrides(out, p, answers)?;
+    let Ok(()) = push_overrides(out, p, answers) else {
+        return Err(AllocError);
+    };
     push_nmis(out, p.processors.as_slice(), p.lints.as_slice())
 }
 
@@ -212,9 +232,13 @@ fn entries(alloc: Global, p: &Platform, answers: &[Answer]) -> Result<Vec<MadtEn
     requires small { IsSmallPlatform p.now }
     ensures { IfOk result (λ es. es.items ≡ apics_of p.now ++ interrupts_of p.now answers.now) }
 {
-    let mut entries = apics(alloc, p)?;
-    push_interrupts(&mut entries, p, answers)?;
-    Ok(entries)
+    let Ok(mut entries) = apics(alloc, p) else {
+        return Err(AllocError);
+    };
+    match push_interrupts(&mut entries, p, answers) {
+        Ok(()) => Ok(entries),
+        Err(_) => Err(AllocError),
+    }
 }
 
 /// The table that says what the platform and its routes say: each processor, each enabled I/O APIC, an

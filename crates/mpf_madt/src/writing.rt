@@ -24,7 +24,9 @@ fn push_entries(out: &mut Vec<u8>, entries: &[MadtEntry]) -> Result<(), NoMemory
     ensures { OnOk result (out.new.items ≡ out.old.items ++ flat_map entry_bytes entries.now) }
 {
     for entry in entries {
-        write_entry(out, entry)?;
+        let Ok(()) = write_entry(out, entry) else {
+            return Err(NoMemory);
+        };
     }
     Ok(())
 }
@@ -40,15 +42,6 @@ fn front_of(madt: &Madt, size: u32) -> [u8; 10]
     bytes
 }
 
-// the OEM revision
-fn word_of(number: u32) -> [u8; 4]
-    ensures { result ≡ to_le_bytes w32 number }
-{
-    let mut bytes = [0; 4];
-    put_u32(&mut bytes, 0, number);
-    bytes
-}
-
 // the twelve bytes behind the creator id
 fn back_of(madt: &Madt) -> [u8; 12]
     ensures { result ≡ back_bytes madt.now }
@@ -60,40 +53,52 @@ fn back_of(madt: &Madt) -> [u8; 12]
     bytes
 }
 
-// appends the 44 bytes of the header with this length, its checksum still zero
-fn push_header(out: &mut Vec<u8>, madt: &Madt, size: u32) -> Result<(), NoMemory>
-    ensures bytes { OnOk result (out.new.items ≡ out.old.items ++ header_bytes madt.now size 0) }
-    ensures size { OnOk result (length out.new.items ≡ length out.old.items + 44) }
+// the 44 bytes of the header with this length, its checksum still zero
+fn header_of(madt: &Madt, size: u32) -> [u8; 44]
+    ensures { result ≡ header_bytes madt.now size 0 }
 {
-    append(out, &front_of(madt, size))?;
-    append(out, &madt.oem)?;
-    append(out, &madt.table)?;
-    append(out, &word_of(madt.oem_revision))?;
-    append(out, &madt.creator)?;
-    append(out, &back_of(madt))?;
-    Ok(())
+    let mut bytes = [0; 44];
+    put_bytes(&mut bytes, 0, &front_of(madt, size));
+    put_bytes(&mut bytes, 10, &madt.oem);
+    put_bytes(&mut bytes, 16, &madt.table);
+    put_u32(&mut bytes, 24, madt.oem_revision);
+    put_bytes(&mut bytes, 28, &madt.creator);
+    put_bytes(&mut bytes, 32, &back_of(madt));
+    bytes
+}
+
+// appends the header with this length, its checksum still zero, and the entries
+fn push_table(out: &mut Vec<u8>, madt: &Madt, size: u32) -> Result<(), NoMemory>
+    requires lawful { AllByRecursion IsLawfulEntry madt.now.entries }
+    ensures { OnOk result (out.new.items ≡ out.old.items ++ header_bytes madt.now size 0 ++ flat_map entry_bytes madt.now.entries) }
+{
+    let Ok(()) = append(out, &header_of(madt, size)) else {
+        return Err(NoMemory);
+    };
+    push_entries(out, madt.entries.as_slice())
 }
 
 // the table, its checksum still zero
 fn open_table(alloc: Global, madt: &Madt) -> Result<Vec<u8>, NoMemory>
     requires lawful { IsLawfulMadt madt.now }
-    ensures bytes { IfOk result (λ bytes. bytes.items ≡ madt_with madt.now 0) }
-    ensures size { IfOk result (λ bytes. length bytes.items ≡ madt_size madt.now) }
+    ensures { IfOk result (λ bytes. bytes.items ≡ madt_with madt.now 0) }
 {
     let size = madt_size(madt) as u32;
     let mut out = Vec::new(alloc);
-    push_header(&mut out, madt, size)?;
-    push_entries(&mut out, madt.entries.as_slice())?;
-    Ok(out)
+    match push_table(&mut out, madt, size) {
+        Ok(()) => Ok(out),
+        Err(_) => Err(NoMemory),
+    }
 }
 
 // the table with its checksum
 fn table_bytes(alloc: Global, madt: &Madt) -> Result<Vec<u8>, NoMemory>
     requires lawful { IsLawfulMadt madt.now }
-    ensures bytes { IfOk result (λ bytes. bytes.items ≡ madt_bytes madt.now) }
-    ensures size { IfOk result (λ bytes. length bytes.items ≡ madt_size madt.now) }
+    ensures { IfOk result (λ bytes. bytes.items ≡ madt_bytes madt.now) }
 {
-    let mut bytes = open_table(alloc, madt)?;
+    let Ok(mut bytes) = open_table(alloc, madt) else {
+        return Err(NoMemory);
+    };
     seal8(bytes.as_mut_slice(), CHECKSUM_AT);
     Ok(bytes)
 }
@@ -107,6 +112,8 @@ pub fn write_madt(alloc: Global, madt: &Madt) -> Result<Vec<u8>, NoMemory>
     ensures only { (bytes : List ℕ) → IsByteList bytes → IsMadt madt.now bytes → IfOk result (λ written. written.items ≡ bytes) }
 {
     madt_value(madt);
-    let bytes = table_bytes(alloc, madt)?;
+    let Ok(bytes) = table_bytes(alloc, madt) else {
+        return Err(NoMemory);
+    };
     Ok(bytes)
 }

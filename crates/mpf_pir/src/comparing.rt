@@ -73,7 +73,9 @@ fn no_slots(alloc: Global, devices: usize) -> Result<Vec<Option<[u8; 4]>>, Alloc
 fn first_slots(alloc: Global, slots: &[Slot]) -> Result<Vec<Option<[u8; 4]>>, AllocError>
     ensures { IfOk result (λ table. IsTableOf 8192 table.items (links_of slots.now)) }
 {
-    let mut table = no_slots(alloc, 8_192)?;
+    let Ok(mut table) = no_slots(alloc, 8_192) else {
+        return Err(AllocError);
+    };
     for slot in slots {
         let number = slot_number(*slot);
         if table[number].is_none() {
@@ -207,9 +209,13 @@ fn pins_of(alloc: Global, p: &Platform) -> Result<Firsts, AllocError>
     ensures pins { IfOk result (λ pins. pins.entries.items ≡ pin_entries p.now) }
     ensures table { IfOk result (λ pins. IsPlaceTable by.Pin pins.entries.items pins.places.items) }
 {
-    let ints = pci_ints(alloc, p)?;
-    let pins = firsts_by(alloc, ints.as_slice(), By::Pin)?;
-    Ok(pins)
+    let Ok(ints) = pci_ints(alloc, p) else {
+        return Err(AllocError);
+    };
+    match firsts_by(alloc, ints.as_slice(), By::Pin) {
+        Ok(pins) => Ok(pins),
+        Err(_) => Err(AllocError),
+    }
 }
 
 // the differences, by the first entry of each pin and the links of each device
@@ -240,8 +246,12 @@ fn differences_by(
 fn differences(alloc: Global, p: &Platform, t: &Pir) -> Result<Vec<Difference>, AllocError>
     ensures { IfOk result (λ found. AreDifferencesOf p.now t.now found.items) }
 {
-    let pins = pins_of(alloc, p)?;
-    let slots = first_slots(alloc, t.slots.as_slice())?;
+    let Ok(pins) = pins_of(alloc, p) else {
+        return Err(AllocError);
+    };
+    let Ok(slots) = first_slots(alloc, t.slots.as_slice()) else {
+        return Err(AllocError);
+    };
     differences_by(alloc, p, t, &pins, slots.as_slice())
 }
 

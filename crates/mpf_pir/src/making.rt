@@ -64,8 +64,10 @@ fn devices_of(alloc: Global, ints: &[IntEntry]) -> Result<Vec<IntEntry>, AllocEr
     ensures devices { IfOk result (λ devices. devices.items ≡ firsts (is_same_by by.Device) ints.now) }
     ensures few { IfOk result (λ devices. length devices.items ≤ length ints.now) }
 {
-    let devices = firsts_by(alloc, ints, By::Device)?;
-    Ok(devices.entries)
+    match firsts_by(alloc, ints, By::Device) {
+        Ok(devices) => Ok(devices.entries),
+        Err(_) => Err(AllocError),
+    }
 }
 
 // the wiring by the INT entries whose bus is PCI
@@ -75,9 +77,15 @@ fn wiring_by(alloc: Global, p: &Platform, ints: &[IntEntry]) -> Result<Wiring, A
     requires bytes { AllByRecursion HasBytePin ints.now }
     ensures { IfOk result (IsWiringOf p.now) }
 {
-    let devices = devices_of(alloc, ints)?;
-    let pins = firsts_by(alloc, ints, By::Pin)?;
-    let wires = firsts_by(alloc, pins.entries.as_slice(), By::Wire)?;
+    let Ok(devices) = devices_of(alloc, ints) else {
+        return Err(AllocError);
+    };
+    let Ok(pins) = firsts_by(alloc, ints, By::Pin) else {
+        return Err(AllocError);
+    };
+    let Ok(wires) = firsts_by(alloc, pins.entries.as_slice(), By::Wire) else {
+        return Err(AllocError);
+    };
     Ok(Wiring {
         pins,
         wires,
@@ -88,7 +96,9 @@ fn wiring_by(alloc: Global, p: &Platform, ints: &[IntEntry]) -> Result<Wiring, A
 fn wiring_of(alloc: Global, p: &Platform) -> Result<Wiring, AllocError>
     ensures { IfOk result (IsWiringOf p.now) }
 {
-    let ints = pci_ints(alloc, p)?;
+    let Ok(ints) = pci_ints(alloc, p) else {
+        return Err(AllocError);
+    };
     wiring_by(alloc, p, ints.as_slice())
 }
 
@@ -168,12 +178,10 @@ fn pir_by(alloc: Global, p: &Platform, wiring: &Wiring) -> Result<Pir, MakeFault
     if links > MOST_LINKS {
         return Err(MakeFault::ManyLinks { n: links as u32 });
     }
-    let slots = slots_of(
-        alloc,
-        &wiring.pins,
-        &wiring.wires,
-        wiring.devices.as_slice(),
-    )?;
+    let devices = wiring.devices.as_slice();
+    let Ok(slots) = slots_of(alloc, &wiring.pins, &wiring.wires, devices) else {
+        return Err(MakeFault::NoMemory);
+    };
     Ok(Pir {
         router_bus: 0,
         router_function: 0,
@@ -196,6 +204,8 @@ pub fn make(alloc: Global, p: &Platform) -> Result<Pir, MakeFault>
     ensures fault { IfMakeFault result (IsMakeFault p.now) }
     ensures only_fault { (f : MakeFault) → IsMakeFault p.now f → AnswersMakeFault result f }
 {
-    let wiring = wiring_of(alloc, p)?;
+    let Ok(wiring) = wiring_of(alloc, p) else {
+        return Err(MakeFault::NoMemory);
+    };
     pir_by(alloc, p, &wiring)
 }

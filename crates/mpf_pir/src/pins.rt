@@ -72,7 +72,9 @@ pub fn pci_ints(alloc: Global, p: &Platform) -> Result<Vec<IntEntry>, AllocError
     ensures few { IfOk result (λ ints. length ints.items ≤ length p.now.ints) }
     ensures bytes { IfOk result (λ ints. AllByRecursion HasBytePin ints.items) }
 {
-    let buses = first_buses(alloc, p.buses.as_slice())?;
+    let Ok(buses) = first_buses(alloc, p.buses.as_slice()) else {
+        return Err(AllocError);
+    };
     pci_ints_by(alloc, p, buses.as_slice())
 }
 
@@ -131,7 +133,9 @@ pub fn firsts_by(alloc: Global, entries: &[IntEntry], by: By) -> Result<Firsts, 
     ensures are { IfOk result (λ found. AreFirsts by entries.now found.entries.items found.places.items) }
     ensures few { IfOk result (λ found. length found.entries.items ≤ length entries.now) }
 {
-    let mut places = no_places(alloc, count(by))?;
+    let Ok(mut places) = no_places(alloc, count(by)) else {
+        return Err(AllocError);
+    };
     let mut found = Vec::new(alloc);
     for e in entries {
         let number = number(by, *e);

@@ -1,6 +1,7 @@
 //! The reading of a table (PCI IRQ Routing Table Specification 1.0).
 
-ghost use Rattle.std.specs.Prelude.{◌≡◌, ◌+◌, ◌≤◌, ◌<◌, ◌*◌, ℕ, length, IfOk, IfSome, IfNone};
+ghost use Rattle.std.specs.Prelude.{◌≡◌, ◌+◌, ◌≤◌, ◌<◌, ◌*◌, ℕ, length, IfOk, IfSome, IfNone, IsTrue, ◌↔◌};
+ghost use Rattle.mpt_base.specs.Bytes.{part};
 ghost use Rattle.mpf_pir.specs.declared.table.Pir.{Pir as RoutingTable};
 ghost use Rattle.mpf_pir.specs.declared.table.PirReason.{PirReason};
 ghost use Rattle.mpf_pir.specs.Layout.{IsSlotAt, AreSlots, IsPir};
@@ -16,6 +17,14 @@ use mpt_base::{part_at, read_field, sum8, u16_at};
 use mpt_spec::Sequence;
 use std::alloc::Global;
 
+// whether the bytes at a place are these
+fn has_part(bytes: &[u8], at: usize, piece: &[u8]) -> bool
+    requires { at + length piece.now ≤ length bytes.now }
+    ensures { IsTrue result ↔ (part bytes.now at (length piece.now) ≡ piece.now) }
+{
+    part_at(bytes, at, piece.len()) == piece
+}
+
 // the first fault of the bytes, with its offset
 fn fault_of(bytes: &[u8]) -> Option<(u64, PirReason)>
     ensures some { IfSome result (λ f. IsFirstPirFault bytes.now f.0 f.1) }
@@ -24,10 +33,10 @@ fn fault_of(bytes: &[u8]) -> Option<(u64, PirReason)>
     if bytes.len() < HEADER_SIZE {
         return Some((0, PirReason::Short));
     }
-    if part_at(bytes, 0, 4) != SIGNATURE.as_slice() {
+    if !has_part(bytes, 0, &SIGNATURE) {
         return Some((0, PirReason::BadSignature));
     }
-    if part_at(bytes, VERSION_AT, 2) != VERSION.as_slice() {
+    if !has_part(bytes, VERSION_AT, &VERSION) {
         return Some((4, PirReason::BadVersion));
     }
     let size = u16_at(bytes, SIZE_AT);
@@ -56,7 +65,9 @@ fn slots_of(alloc: Global, bytes: &[u8]) -> Result<Vec<Slot>, PirRefusal>
     let mut slots = Vec::new(alloc);
     let mut at = HEADER_SIZE;
     while at < bytes.len() {
-        slots.push(slot_at(bytes, at))?;
+        let Ok(()) = slots.push(slot_at(bytes, at)) else {
+            return Err(PirRefusal::NoMemory);
+        };
         at += SLOT_SIZE;
     }
     Ok(slots)
@@ -73,6 +84,9 @@ pub fn read_pir(alloc: Global, bytes: &[u8]) -> Result<Pir, PirRefusal>
     if let Some((at, why)) = fault_of(bytes) {
         return Err(PirRefusal::Fault { at, why });
     }
-    let slots = slots_of(alloc, bytes)?;
+    let slots = match slots_of(alloc, bytes) {
+        Ok(slots) => slots,
+        Err(refusal) => return Err(refusal),
+    };
     Ok(header_layout!(read_header, bytes, slots))
 }

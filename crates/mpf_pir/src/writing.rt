@@ -50,7 +50,9 @@ fn slots_bytes(alloc: Global, slots: &[Slot]) -> Result<Vec<u8>, NoMemory>
     let mut out = Vec::new(alloc);
     for slot in slots {
         slot_value(*slot);
-        append(&mut out, &slot_bytes(*slot))?;
+        let Ok(()) = append(&mut out, &slot_bytes(*slot)) else {
+            return Err(NoMemory);
+        };
     }
     Ok(out)
 }
@@ -93,8 +95,12 @@ fn header_value(pir: &Pir)
 fn push_pieces(out: &mut Vec<u8>, header: &[u8], slots: &[u8]) -> Result<(), NoMemory>
     ensures { OnOk result (out.new.items ≡ ((out.old.items ++ header.now) ++ 0 ∷ []) ++ slots.now) }
 {
-    append(out, header)?;
-    append(out, &[0])?;
+    let Ok(()) = append(out, header) else {
+        return Err(NoMemory);
+    };
+    let Ok(()) = append(out, &[0]) else {
+        return Err(NoMemory);
+    };
     append(out, slots)
 }
 
@@ -106,11 +112,15 @@ fn open_bytes(alloc: Global, pir: &Pir) -> Result<Vec<u8>, NoMemory>
     header_value(pir);
     let slots = pir.slots.as_slice();
     let size = HEADER_SIZE + SLOT_SIZE * slots.len();
-    let slots = slots_bytes(alloc, slots)?;
+    let Ok(slots) = slots_bytes(alloc, slots) else {
+        return Err(NoMemory);
+    };
     let mut out = Vec::new(alloc);
     let header = header_bytes(pir, size as u16);
-    push_pieces(&mut out, &header, slots.as_slice())?;
-    Ok(out)
+    match push_pieces(&mut out, &header, slots.as_slice()) {
+        Ok(()) => Ok(out),
+        Err(_) => Err(NoMemory),
+    }
 }
 
 // the bytes of the table, with its checksum
@@ -118,7 +128,9 @@ fn sealed_bytes(alloc: Global, pir: &Pir) -> Result<Vec<u8>, NoMemory>
     requires few { length pir.now.slots ≤ 4093 }
     ensures { IfOk result (λ bytes. IsPir pir.now bytes.items) }
 {
-    let mut bytes = open_bytes(alloc, pir)?;
+    let Ok(mut bytes) = open_bytes(alloc, pir) else {
+        return Err(NoMemory);
+    };
     seal8(bytes.as_mut_slice(), CHECKSUM_AT);
     Ok(bytes)
 }
@@ -137,7 +149,9 @@ pub fn write_pir(alloc: Global, pir: &Pir) -> Result<Vec<u8>, NoMemory>
     ensures size { IfOk result (λ bytes. length bytes.items ≡ 32 + 16 * length pir.now.slots) }
     ensures only { (bytes : List ℕ) → IsByteList bytes → IsPir pir.now bytes → IfOk result (λ written. written.items ≡ bytes) }
 {
-    let bytes = sealed_bytes(alloc, pir)?;
+    let Ok(bytes) = sealed_bytes(alloc, pir) else {
+        return Err(NoMemory);
+    };
     byte_list(bytes.as_slice());
     Ok(bytes)
 }

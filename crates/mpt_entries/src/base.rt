@@ -100,9 +100,14 @@ pub fn read_base(alloc: Global, bytes: &[u8], from: usize, to: usize) -> Result<
     let mut entries = Vec::new(alloc);
     let mut at = from;
     while at < to {
-        let entry = entry_at(bytes, at, to)?;
+        let entry = match entry_at(bytes, at, to) {
+            Ok(entry) => entry,
+            Err(fault) => return Err(Stop::Fault(fault)),
+        };
         at += length_of(&entry);
-        entries.push(entry)?;
+        let Ok(()) = entries.push(entry) else {
+            return Err(Stop::NoMemory);
+        };
     }
     Ok(entries)
 }

@@ -54,7 +54,9 @@ fn opaque_at(alloc: Global, bytes: &[u8], at: usize) -> Result<Opaque, AllocErro
     ensures { IfOk result (λ e. IsOpaqueAt e bytes.now at) }
 {
     let end = at + bytes[at + 1] as usize;
-    let rest = Vec::from_slice(alloc, &bytes[at + 2..end])?;
+    let Ok(rest) = Vec::from_slice(alloc, &bytes[at + 2..end]) else {
+        return Err(AllocError);
+    };
     Ok(Opaque {
         kind: bytes[at],
         rest: Sequence::new(rest),
@@ -111,7 +113,10 @@ fn entry_at(alloc: Global, bytes: &[u8], at: usize, size: usize) -> Result<Ext, 
         SPACE => Ok(Ext::Space(space_at(bytes, at))),
         HIERARCHY => Ok(Ext::Hierarchy(hierarchy_at(bytes, at))),
         MODIFIER => Ok(Ext::Modifier(modifier_at(bytes, at))),
-        _ => Ok(Ext::Opaque(opaque_at(alloc, bytes, at)?)),
+        _ => match opaque_at(alloc, bytes, at) {
+            Ok(entry) => Ok(Ext::Opaque(entry)),
+            Err(_) => Err(AllocError),
+        },
     }
 }
 
@@ -128,9 +133,16 @@ pub fn read_ext(alloc: Global, bytes: &[u8], from: usize, to: usize) -> Result<V
     let mut entries = Vec::new(alloc);
     let mut at = from;
     while at < to {
-        let size = length_at(bytes, at, to)?;
-        let entry = entry_at(alloc, bytes, at, size)?;
-        entries.push(entry)?;
+        let size = match length_at(bytes, at, to) {
+            Ok(size) => size,
+            Err(fault) => return Err(Stop::Fault(fault)),
+        };
+        let Ok(entry) = entry_at(alloc, bytes, at, size) else {
+            return Err(Stop::NoMemory);
+        };
+        let Ok(()) = entries.push(entry) else {
+            return Err(Stop::NoMemory);
+        };
         at += size;
     }
     Ok(entries)

@@ -50,7 +50,9 @@ fn write_opaque(out: &mut Vec<u8>, entry: &Opaque) -> Result<(), NoMemory>
 {
     let rest = entry.rest.as_slice();
     let before = out.len();
-    append(out, &[entry.kind, 2 + rest.len() as u8])?;
+    let Ok(()) = append(out, &[entry.kind, 2 + rest.len() as u8]) else {
+        return Err(NoMemory);
+    };
     match append(out, rest) {
         Ok(()) => Ok(()),
         Err(failed) => {

@@ -24,7 +24,7 @@ use Rattle.mpt_table.specs.declared.search_from.Found.{Found}
 use Rattle.mpt_table.specs.declared.window.WindowFailure.{WindowFailure}
 use Rattle.mpt_table.specs.declared.refusal.FileRefusal.{FileRefusal}
 use Rattle.mpt_table.specs.declared.refusal.FileRefusal.TheVariants as refusal
-use Rattle.mpt_table.specs.Windows.{IfTold, IsAreaIn, IsFoundAmong, IfFaultOf, IsFileCauseOf, IsTableRefusal}
+use Rattle.mpt_table.specs.Windows.{IfTold, IsAreaIn, IsPlaceIn, IsFoundAmong, IfFaultOf, IsFileCauseOf, IsTableRefusal}
 use Rattle.mpt_table.proofs.PointerFaults.{IsPointerFault-first, HasRightPointer-no_fault}
 use Rattle.mpt_table.proofs.TableInWindow.{IsLeastFault-moved}
 use Rattle.mpt_table.proofs.WindowAreas.{own_area, first_in_window, none_in_window, places-empty}
@@ -176,6 +176,16 @@ pub area_none : (told : Option Files) (name : List ℕ) (size : ℕ) (area : Are
     → IfNone r (HoldsAtNone (HasPointerAt bytes) (places_in (own_area (length bytes)))) → FillsFromTold told name area.from bytes → IfNone r (IfTold told name (λ image. HoldsAtNone (HasPointerAt image) (places_in area)))
 area_none told name size area bytes None is all none fills = HoldsAtNone-of_window told name size area bytes is all none fills
 area_none told name size area bytes (Some f) is all none fills = tt
+
+pub area_place : (size : ℕ) (area : Area) (bytes : List ℕ) (r : Option Found) → IsAreaIn size area → length bytes ≡ area.to - area.from
+    → IfSome r (λ f. (area.from ≤ f.at) × IsFirst (HasPointerAt bytes) (places_in (own_area (length bytes))) (f.at - area.from) × IsFloatingPointer f.pointer (part bytes (f.at - area.from) 16))
+    → (area.from % 16 ≡ 0 → IfSome r (λ f. f.at % 16 ≡ 0)) → IfSome r (λ f. f.at + 16 ≤ area.from + length bytes) → IfSome r (λ f. IsPlaceIn size f.at)
+area_place size area bytes None is all some paragraph inside = tt
+area_place size area bytes (Some f) is all some paragraph inside = record {
+  paragraph = elim is.paragraph [ inl h ↦ paragraph h | inr none ↦ absurd (omega (arith, none, all, inside, some.0)) ];
+  inside = omega (arith, is.inside, is.order, all, inside);
+  low = omega (arith, is.low, is.order, all, inside);
+}
 
 -- the areas behind one without any
 pub passed-next : (told : Option Files) (name : List ℕ) (here : Area) (rest : List Area) (whole : List ℕ) → IfTold told name (λ image. HoldsAtNone (HasPointerAt image) (places_in here))

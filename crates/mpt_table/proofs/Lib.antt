@@ -1,4 +1,5 @@
 pub mod PointerFaults
+pub mod ShelfLemmas
 pub mod TableFaults
 pub mod AnswerLemmas
 pub mod TableInWindow

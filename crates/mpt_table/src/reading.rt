@@ -78,7 +78,10 @@ pub(crate) fn read_table(alloc: Global, image: &[u8], at: usize) -> Result<Table
     if let Some(fault) = header_fault(image, at) {
         return Err(Stop::Fault(fault));
     }
-    let base = counted_base(alloc, image, at)?;
+    let base = match counted_base(alloc, image, at) {
+        Ok(base) => base,
+        Err(stop) => return Err(stop),
+    };
     // The extended part's length and checksum stand before all entries.
     if let Some(fault) = ext_header_fault(image, at) {
         return Err(Stop::Fault(fault));
@@ -98,7 +101,10 @@ fn body_of(alloc: Global, image: &[u8], pointer: &Pointer) -> Result<Body, Stop>
         IsLeastFault (HasTableFaultAt image.now pointer.now.address) f.at f.why) }
 {
     match pointer.features[0] {
-        0 => Ok(Body::Listed(read_table(alloc, image, pointer.address as usize)?)),
+        0 => match read_table(alloc, image, pointer.address as usize) {
+            Ok(table) => Ok(Body::Listed(table)),
+            Err(stop) => Err(stop),
+        },
         number => Ok(Body::Default(number)),
     }
 }

@@ -42,8 +42,12 @@ fn areas_from<S: Shelf>(shelf: &mut S, name: &str, size: u64) -> Result<ArrayVec
     ensures areas { IfOk result (λ areas. AllByRecursion (IsAreaIn size) areas.items) }
     ensures bytes { IfOk result (λ areas. area_bytes areas.items ≤ 66560) }
 {
-    let ebda = word_from(shelf, name, size, EBDA_WORD)?;
-    let base_kib = word_from(shelf, name, size, BASE_WORD)?;
+    let Ok(ebda) = word_from(shelf, name, size, EBDA_WORD) else {
+        return Err(Failed);
+    };
+    let Ok(base_kib) = word_from(shelf, name, size, BASE_WORD) else {
+        return Err(Failed);
+    };
     Ok(areas(ebda, base_kib, size))
 }
 

@@ -73,6 +73,8 @@ pub(crate) fn word_from<S: Shelf>(
         return Ok(0);
     }
     let mut bytes = [0; 2];
-    shelf.read_at(name, at, &mut bytes)?;
-    Ok(u16_at(&bytes, 0))
+    match shelf.read_at(name, at, &mut bytes) {
+        Ok(()) => Ok(u16_at(&bytes, 0)),
+        Err(Failed) => Err(Failed),
+    }
 }

@@ -11,7 +11,7 @@ ghost use Rattle.mpt_spec.specs.Extended.{ext_length};
 ghost use Rattle.mpt_spec.specs.Image.{base_bytes, ext_bytes, base_table_bytes, table_bytes, body_bytes};
 ghost use Rattle.mpt_spec.specs.Table.{Describes};
 
-use crate::header::{CHECKSUM_AT, push_header};
+use crate::header::{CHECKSUM_AT, header_of};
 use crate::sizes::base_size;
 use mpt_base::{NoMemory, append, checksum8, seal8};
 use mpt_entries::{write_base, write_ext};
@@ -24,7 +24,9 @@ fn push_bases(out: &mut Vec<u8>, entries: &[Base]) -> Result<(), NoMemory>
     ensures size { OnOk result (length out.new.items ≡ length out.old.items + sum_by base_length entries.now) }
 {
     for entry in entries {
-        write_base(out, entry)?;
+        let Ok(()) = write_base(out, entry) else {
+            return Err(NoMemory);
+        };
     }
     Ok(())
 }
@@ -36,7 +38,9 @@ fn push_exts(out: &mut Vec<u8>, entries: &[Ext]) -> Result<(), NoMemory>
     ensures size { OnOk result (length out.new.items ≡ length out.old.items + sum_by ext_length entries.now) }
 {
     for entry in entries {
-        write_ext(out, entry)?;
+        let Ok(()) = write_ext(out, entry) else {
+            return Err(NoMemory);
+        };
     }
     Ok(())
 }
@@ -48,8 +52,10 @@ fn ext_part(alloc: Global, entries: &[Ext]) -> Result<Vec<u8>, NoMemory>
     ensures size { IfOk result (λ part. length part.items ≡ sum_by ext_length entries.now) }
 {
     let mut out = Vec::new(alloc);
-    push_exts(&mut out, entries)?;
-    Ok(out)
+    match push_exts(&mut out, entries) {
+        Ok(()) => Ok(out),
+        Err(_) => Err(NoMemory),
+    }
 }
 
 // the base table before this extended part, its checksum still zero
@@ -62,14 +68,13 @@ fn open_base_table(alloc: Global, table: &Table, ext_part: &[u8]) -> Result<Vec<
     let base_length = base_size(table) as u16;
     let ext_length = ext_part.len() as u16;
     let mut out = Vec::new(alloc);
-    push_header(
-        &mut out,
-        table,
-        base_length,
-        ext_length,
-        checksum8(ext_part),
-    )?;
-    push_bases(&mut out, table.base.as_slice())?;
+    let header = header_of(table, base_length, ext_length, checksum8(ext_part));
+    let Ok(()) = append(&mut out, &header) else {
+        return Err(NoMemory);
+    };
+    let Ok(()) = push_bases(&mut out, table.base.as_slice()) else {
+        return Err(NoMemory);
+    };
     Ok(out)
 }
 
@@ -80,7 +85,9 @@ fn base_table(alloc: Global, table: &Table, ext_part: &[u8]) -> Result<Vec<u8>, 
     ensures bytes { IfOk result (λ bytes. bytes.items ≡ base_table_bytes table.now (checksum_of (base_table_bytes table.now 0 ext_part.now)) ext_part.now) }
     ensures size { IfOk result (λ bytes. length bytes.items ≡ base_size table.now) }
 {
-    let mut bytes = open_base_table(alloc, table, ext_part)?;
+    let Ok(mut bytes) = open_base_table(alloc, table, ext_part) else {
+        return Err(NoMemory);
+    };
     seal8(bytes.as_mut_slice(), CHECKSUM_AT);
     Ok(bytes)
 }
@@ -90,10 +97,16 @@ fn table_bytes(alloc: Global, table: &Table) -> Result<Vec<u8>, NoMemory>
     ensures bytes { IfOk result (λ bytes. bytes.items ≡ table_bytes table.now) }
     ensures size { IfOk result (λ bytes. length bytes.items ≡ base_size table.now + ext_size table.now) }
 {
-    let ext_part = ext_part(alloc, table.ext.as_slice())?;
-    let mut bytes = base_table(alloc, table, ext_part.as_slice())?;
-    append(&mut bytes, ext_part.as_slice())?;
-    Ok(bytes)
+    let Ok(ext_part) = ext_part(alloc, table.ext.as_slice()) else {
+        return Err(NoMemory);
+    };
+    let Ok(mut bytes) = base_table(alloc, table, ext_part.as_slice()) else {
+        return Err(NoMemory);
+    };
+    match append(&mut bytes, ext_part.as_slice()) {
+        Ok(()) => Ok(bytes),
+        Err(_) => Err(NoMemory),
+    }
 }
 
 // the bytes of a body
@@ -118,6 +131,8 @@ pub fn write_block(alloc: Global, tables: &Tables) -> Result<Vec<u8>, NoMemory>
     ensures own { (image : List ℕ) → IsByteList image → Describes image tables.now
         → IfOk result (λ block. part image tables.now.pointer.address (length block.items) ≡ block.items) }
 {
-    let block = body_bytes(alloc, tables)?;
+    let Ok(block) = body_bytes(alloc, tables) else {
+        return Err(NoMemory);
+    };
     Ok(block)
 }

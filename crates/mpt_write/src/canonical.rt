@@ -16,7 +16,9 @@ fn cleared_bases(alloc: Global, entries: &[Base]) -> Result<Vec<Base>, AllocErro
 {
     let mut out = Vec::new(alloc);
     for entry in entries {
-        out.push(entry.cleared())?;
+        let Ok(()) = out.push(entry.cleared()) else {
+            return Err(AllocError);
+        };
     }
     Ok(out)
 }
@@ -26,7 +28,9 @@ fn cleared_exts(alloc: Global, entries: Vec<Ext>) -> Result<Vec<Ext>, AllocError
 {
     let mut out = Vec::new(alloc);
     for entry in entries {
-        out.push(entry.cleared())?;
+        let Ok(()) = out.push(entry.cleared()) else {
+            return Err(AllocError);
+        };
     }
     Ok(out)
 }
@@ -55,8 +59,12 @@ fn canonical_exts(alloc: Global, entries: Vec<Ext>) -> Result<Vec<Ext>, NoMemory
 fn canonical_table(alloc: Global, table: Table) -> Result<Table, NoMemory>
     ensures { IfOk result (λ canonical. canonical ≡ canonical_table table) }
 {
-    let base = canonical_bases(alloc, table.base.as_slice())?;
-    let ext = canonical_exts(alloc, table.ext.into_vec())?;
+    let Ok(base) = canonical_bases(alloc, table.base.as_slice()) else {
+        return Err(NoMemory);
+    };
+    let Ok(ext) = canonical_exts(alloc, table.ext.into_vec()) else {
+        return Err(NoMemory);
+    };
     Ok(Table {
         revision: table.revision,
         oem: table.oem,
@@ -76,10 +84,10 @@ fn canonical_body(alloc: Global, body: Body) -> Result<Body, NoMemory>
 {
     match body {
         Body::Default(number) => Ok(Body::Default(number)),
-        Body::Listed(table) => {
-            let canonical = canonical_table(alloc, table)?;
-            Ok(Body::Listed(canonical))
-        }
+        Body::Listed(table) => match canonical_table(alloc, table) {
+            Ok(canonical) => Ok(Body::Listed(canonical)),
+            Err(failed) => Err(failed),
+        },
     }
 }
 

@@ -1,11 +1,11 @@
 //! The bytes of a table's header (MultiProcessor Specification 1.4, section 4.2, figure 4-3), its
 //! checksum still zero.
 
-ghost use Rattle.std.specs.Prelude.{◌≡◌, ◌+◌, ◌≤◌, ◌++◌, ◌∷◌, [], length, codes, OnOk};
+ghost use Rattle.std.specs.Prelude.{◌≡◌, ◌≤◌, ◌++◌, ◌∷◌, [], length, codes};
 ghost use Rattle.std.specs.Int.{to_le_bytes, w16, w32};
 ghost use Rattle.mpt_spec.specs.Image.{header_end, header_bytes};
 
-use mpt_base::{NoMemory, append, put_bytes, put_u16, put_u32};
+use mpt_base::{put_bytes, put_u16, put_u32};
 use mpt_spec::{OLD_REVISION, Table};
 
 /// The offset of the checksum.
@@ -51,22 +51,21 @@ fn end_of(table: &Table, ext_length: u16, ext_checksum: u8) -> [u8; 4]
     bytes
 }
 
-/// Appends the 44 bytes of the header with these lengths and this extended checksum.
-pub(crate) fn push_header(
-    out: &mut Vec<u8>,
+/// The 44 bytes of the header with these lengths and this extended checksum.
+pub(crate) fn header_of(
     table: &Table,
     base_length: u16,
     ext_length: u16,
     ext_checksum: u8,
-) -> Result<(), NoMemory>
+) -> [u8; 44]
     requires { length table.now.base ≤ 65535 }
-    ensures bytes { OnOk result (out.new.items ≡ out.old.items ++ header_bytes table.now base_length ext_length 0 ext_checksum) }
-    ensures size { OnOk result (length out.new.items ≡ length out.old.items + 44) }
+    ensures { result ≡ header_bytes table.now base_length ext_length 0 ext_checksum }
 {
-    append(out, &front_of(table, base_length))?;
-    append(out, &table.oem)?;
-    append(out, &table.product)?;
-    append(out, &back_of(table))?;
-    append(out, &end_of(table, ext_length, ext_checksum))?;
-    Ok(())
+    let mut bytes = [0; 44];
+    put_bytes(&mut bytes, 0, &front_of(table, base_length));
+    put_bytes(&mut bytes, 8, &table.oem);
+    put_bytes(&mut bytes, 16, &table.product);
+    put_bytes(&mut bytes, 28, &back_of(table));
+    put_bytes(&mut bytes, 40, &end_of(table, ext_length, ext_checksum));
+    bytes
 }

@@ -70,7 +70,9 @@ fn image_with(
     requires size { 0x100000 ≤ size }
     ensures { IfOk result (λ bytes. bytes.items ≡ overlay (overlay (overlay (replicate size 0) 0x40E (to_le_bytes w16 (tables.now.at / 16))) tables.now.at (pointer_bytes tables.now.pointer)) tables.now.pointer.address (body_bytes tables.now.body)) }
 {
-    let mut image = zeros(alloc, size)?;
+    let Ok(mut image) = zeros(alloc, size) else {
+        return Err(NoMemory);
+    };
     put_all(image.as_mut_slice(), tables, block);
     Ok(image)
 }
@@ -84,7 +86,11 @@ pub fn write_image(alloc: Global, tables: &Tables) -> Result<Vec<u8>, NoMemory>
     ensures describes { IfOk result (λ image. Describes image.items tables.now) }
 {
     tables_value(tables);
-    let block = write_block(alloc, tables)?;
-    let image = image_with(alloc, IMAGE_SIZE, tables, block.as_slice())?;
-    Ok(image)
+    let Ok(block) = write_block(alloc, tables) else {
+        return Err(NoMemory);
+    };
+    match image_with(alloc, IMAGE_SIZE, tables, block.as_slice()) {
+        Ok(image) => Ok(image),
+        Err(_) => Err(NoMemory),
+    }
 }

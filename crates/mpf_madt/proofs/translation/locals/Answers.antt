@@ -13,6 +13,6 @@ loop-e-preserved c =
     let es = c.args.processors.now in
     let i = c.loop-e.e-index in
     let inside : i < length es = omega (arith, c.loop-e-test.true) in (
-      local_pushed es i c.len-uid.result c.from.result d c.loop-e.locals.items c.push.new.self.items inside (omega (arith, c.loop-e.invariant.1)) c.from.ensures c.loop-e.invariant.0 c.in_ok-push.ensures.items,
-      omega (arith, c.loop-e.invariant.1, c.in_ok-push.ensures.len),
+      local_pushed es i c.len-uid.result c.from.result d c.loop-e.locals.items c.push.new.self.items inside (omega (arith, c.loop-e.invariant.1)) c.from.ensures c.loop-e.invariant.0 c.in-Ok.ensures.items,
+      omega (arith, c.loop-e.invariant.1, c.in-Ok.ensures.len),
     )

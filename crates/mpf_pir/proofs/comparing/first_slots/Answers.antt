@@ -14,7 +14,7 @@ d : Slot
 d = record { bus = 0; device = 0; links = []; irqs = []; number = 0; reserved = 0 }
 
 pub loop-slot-init : goal.loop-slot-init
-loop-slot-init c = empty_table {Y = List ℕ} 8192 c.in_ok-table.table.items (found_at {Y = List ℕ} slot_number (λ (s : Slot). s.links) []) c.in_ok-table.ensures (λ n. refl)
+loop-slot-init c = empty_table {Y = List ℕ} 8192 c.in-Ok.table.items (found_at {Y = List ℕ} slot_number (λ (s : Slot). s.links) []) c.in-Ok.ensures (λ n. refl)
 
 pub loop-slot-preserved : goal.loop-slot-preserved
 unfolding d

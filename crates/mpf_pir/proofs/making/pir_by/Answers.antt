@@ -9,7 +9,7 @@ returns-clause-table c =
     let p = c.args.p.now in
     let w = c.args.wiring.now in
     let slots : c.new.result ≡ map (slot_of p) (device_entries p) =
-    c.new.ensures ∙ c.in_ok-slots.ensures ∙ ap (map (slot_with w.pins.entries.items w.wires.entries.items)) c.as_slice.ensures.value
+    c.new.ensures ∙ c.in-Ok.ensures ∙ ap (map (slot_with w.pins.entries.items w.wires.entries.items)) c.as_slice-devices.ensures.value
     ∙ slots_with-of p w.pins.entries.items w.wires.entries.items w.devices.items c.requires.wiring.pins c.requires.wiring.wires c.requires.wiring.devices in
     λ i. record {
       router_bus = 0;

@@ -1,5 +1,5 @@
-use Rattle.std.proofs.Common.{◌<◌, List, [], ◌∷◌, ◌++◌, length, map, take, sym, ap, ◌∙◌, arith}
-use Rattle.std.proofs.lemmas.List.{map_more}
+use Rattle.std.proofs.Common.{◌≡◌, ◌<◌, List, [], ◌∷◌, ◌++◌, length, map, take, sym, ap, ◌∙◌, arith}
+use Rattle.std.proofs.lemmas.List.{map_more, take_all}
 use Rattle.mpt_spec.specs.declared.entry.IntEntry.{IntEntry}
 use Rattle.mpf_pir.specs.declared.table.Slot.{Slot}
 use Rattle.mpf_pir.specs.Index.{slot_with}
@@ -16,4 +16,14 @@ loop-e-preserved c =
     let i = c.loop-e.e-index in
     let inside : i < length es = omega (arith, c.loop-e-test.true) in
     let slot : IntEntry → Slot = slot_with c.args.pins.now.entries.items c.args.wires.now.entries.items in
-    c.in_ok-push.ensures.items ∙ ap (λ (ss : List Slot). ss ++ c.slot_of.result ∷ []) c.loop-e.invariant ∙ ap (λ (s : Slot). map slot (take i es) ++ s ∷ []) c.slot_of.ensures ∙ sym (map_more slot es i d inside)
+    let kept : c.push.new.self.items ≡ c.loop-e.slots.items ++ c.slot_of.result ∷ [] = c.in_ok-push.ensures.items in
+    kept ∙ ap (λ (ss : List Slot). ss ++ c.slot_of.result ∷ []) c.loop-e.invariant ∙ ap (λ (s : Slot). map slot (take i es) ++ s ∷ []) c.slot_of.ensures ∙ sym (map_more slot es i d inside)
+
+pub loop-e-init : goal.loop-e-init
+loop-e-init c = c.new-slots.ensures.items
+
+pub returns : goal.returns
+returns c = c.loop-e.invariant ∙ ap (map (slot_with c.args.pins.now.entries.items c.args.wires.now.entries.items)) (take_all c.loop-e.e-index c.args.devices.now c.loop-e-test.false)
+
+pub slot_of-requires : goal.slot_of-requires
+slot_of-requires c = record { pin_table = c.requires.pin_table; wire_table = c.requires.wire_table; few = c.requires.few; bytes = c.requires.bytes }

@@ -9,18 +9,18 @@ use Rattle.mpf_pir.proofs.making.wiring_by.Goals as goal
 pub returns : goal.returns
 returns c =
     let p = c.args.p.now in
-    let pins : c.in_ok-pins.pins.entries.items ≡ pin_entries p = c.in_ok-pins.ensures.are.firsts_are ∙ ap (firsts (is_same_by by.Pin)) c.requires.ints ∙ pins_are p in
-    let all : AllByRecursion HasBytePin c.in_ok-pins.pins.entries.items =
-    subst (AllByRecursion HasBytePin) (sym c.in_ok-pins.ensures.are.firsts_are) (all_firsts HasBytePin (is_same_by by.Pin) c.args.ints.now c.requires.bytes) in
-    let wires : c.in_ok-wires.wires.entries.items ≡ wire_entries p =
-    c.in_ok-wires.ensures.are.firsts_are ∙ ap (firsts (is_same_by by.Wire)) (c.as_slice.ensures.value ∙ pins) ∙ wires_are p (subst (AllByRecursion HasBytePin) pins all) in
+    let pins : c.in-Ok-firsts_by.pins.entries.items ≡ pin_entries p = c.in-Ok-firsts_by.ensures.are.firsts_are ∙ ap (firsts (is_same_by by.Pin)) c.requires.ints ∙ pins_are p in
+    let all : AllByRecursion HasBytePin c.in-Ok-firsts_by.pins.entries.items =
+    subst (AllByRecursion HasBytePin) (sym c.in-Ok-firsts_by.ensures.are.firsts_are) (all_firsts HasBytePin (is_same_by by.Pin) c.args.ints.now c.requires.bytes) in
+    let wires : c.in-Ok-firsts_by-2.wires.entries.items ≡ wire_entries p =
+    c.in-Ok-firsts_by-2.ensures.are.firsts_are ∙ ap (firsts (is_same_by by.Wire)) (c.as_slice.ensures.value ∙ pins) ∙ wires_are p (subst (AllByRecursion HasBytePin) pins all) in
     record {
       pins = pins;
-      pin_table = c.in_ok-pins.ensures.are.table;
+      pin_table = c.in-Ok-firsts_by.ensures.are.table;
       wires = wires;
-      wire_table = c.in_ok-wires.ensures.are.table;
-      bytes = subst (AllByRecursion HasBytePin) (sym c.in_ok-wires.ensures.are.firsts_are) (all_firsts HasBytePin (is_same_by by.Wire) c.as_slice.result.now (subst (AllByRecursion HasBytePin) (sym c.as_slice.ensures.value) all));
-      devices = c.in_ok-devices.ensures.devices ∙ ap (firsts (is_same_by by.Device)) c.requires.ints ∙ devices_are p;
-      few_devices = omega (arith, c.in_ok-devices.ensures.few, c.requires.few);
-      few_wires = omega (arith, c.in_ok-wires.ensures.few, ap length c.as_slice.ensures.value, c.in_ok-pins.ensures.few, c.requires.few);
+      wire_table = c.in-Ok-firsts_by-2.ensures.are.table;
+      bytes = subst (AllByRecursion HasBytePin) (sym c.in-Ok-firsts_by-2.ensures.are.firsts_are) (all_firsts HasBytePin (is_same_by by.Wire) c.as_slice.result.now (subst (AllByRecursion HasBytePin) (sym c.as_slice.ensures.value) all));
+      devices = c.in-Ok.ensures.devices ∙ ap (firsts (is_same_by by.Device)) c.requires.ints ∙ devices_are p;
+      few_devices = omega (arith, c.in-Ok.ensures.few, c.requires.few);
+      few_wires = omega (arith, c.in-Ok-firsts_by-2.ensures.few, ap length c.as_slice.ensures.value, c.in-Ok-firsts_by.ensures.few, c.requires.few);
     }

@@ -1,11 +1,12 @@
-use Rattle.std.proofs.Common.{◌≡◌, ◌<◌, ℕ, List, [], ◌∷◌, ◌++◌, length, length-append, get_or, ap, sym, subst, not, ◌∙◌, arith}
+use Rattle.std.proofs.Common.{◌≡◌, ◌<◌, ℕ, List, [], ◌∷◌, ◌++◌, length, length-append, get_or, ap, sym, subst, not, replicate, refl, ◌∙◌, arith}
 use Rattle.std.specs.Prelude.{Option, None}
-use Rattle.std.proofs.lemmas.List.{get_or_read}
+use Rattle.std.proofs.lemmas.List.{get_or_read, take_all}
 use Rattle.mpt_spec.specs.declared.entry.IntEntry.{IntEntry}
 use Rattle.mpt_route.specs.Index.{IsTableOf}
 use Rattle.mpt_route.proofs.PlatformLemmas.{none_of, some_of}
-use Rattle.mpf_pir.specs.Index.{number_by, count_by}
+use Rattle.mpf_pir.specs.Index.{number_by, count_by, AreFirsts}
 use Rattle.mpf_pir.proofs.FirstLemmas.{first_new, place_new, first_old, place_old, place_at}
+use Rattle.mpf_pir.proofs.TableLemmas.{empty_table}
 use Rattle.mpf_pir.proofs.pins.firsts_by.Goals as goal
 use Rattle.mpf_pir.proofs.pins.firsts_by.Goals.{then-is_none+in_ok-push, else-is_none}
 
@@ -49,3 +50,28 @@ loop-e-preserved c =
             few = omega (arith, ap length kept, c.loop-e.invariant.few);
           }
     ]
+
+pub returns : goal.returns
+returns c = record {
+  are = subst (λ (es : List IntEntry). AreFirsts c.args.by es c.loop-e.found.items c.loop-e.places.items) (take_all c.loop-e.e-index c.args.entries.now c.loop-e-test.false) c.loop-e.invariant.are;
+  few = omega (arith, c.loop-e.invariant.few, c.loop-e.auto.e-index-end);
+}
+
+pub index-requires : goal.index-requires
+index-requires c = omega (arith, c.number-number.ensures.below, c.loop-e.invariant.are.table.whole)
+
+pub index_mut-requires : goal.index_mut-requires
+index_mut-requires c = omega (arith, c.number-number.ensures.below, c.loop-e.invariant.are.table.whole)
+
+pub loop-e-init : goal.loop-e-init
+loop-e-init c =
+    let key : IntEntry → ℕ = number_by c.args.by in
+    let n = count_by c.args.by in
+    let empty = c.new-found.ensures.items in
+    record {
+      are = record {
+        firsts_are = empty;
+        table = subst (λ (found : List IntEntry). IsTableOf n c.in-Ok.places.items (place_at key found)) (sym empty) (empty_table n c.in-Ok.places.items (place_at key []) (c.in-Ok.ensures ∙ ap (λ m. replicate m None) c.count.ensures) (λ k. refl));
+      };
+      few = omega (arith, ap length empty);
+    }

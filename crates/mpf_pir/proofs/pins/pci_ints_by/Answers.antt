@@ -1,6 +1,7 @@
 use Rattle.std.proofs.Common.{◌≡◌, ◌<◌, List, [], ◌∷◌, ◌++◌, length, length-append, get_or, ap, sym, subst, ◌∙◌, arith}
 use Rattle.std.specs.List.{AllByRecursion}
-use Rattle.std.specs.Prelude.{Option, None}
+use Rattle.std.specs.Prelude.{Option, None, filter}
+use Rattle.std.proofs.lemmas.List.{take_all}
 use Rattle.mpt_spec.specs.declared.entry.IntEntry.{IntEntry}
 use Rattle.mpf_pir.specs.Pins.{is_on_pci}
 use Rattle.mpt_route.specs.declared.bus.BusKind.{BusKind}
@@ -43,3 +44,22 @@ loop-e-preserved c =
             bytes = subst (AllByRecursion HasBytePin) (sym kept) c.loop-e.invariant.bytes;
           }
     ]
+
+pub loop-e-init : goal.loop-e-init
+loop-e-init c =
+    let empty = c.new-ints.ensures.items in
+    record {
+      chosen = empty;
+      few = omega (arith, ap length empty);
+      bytes = subst (AllByRecursion HasBytePin) (sym empty) tt;
+    }
+
+pub returns : goal.returns
+returns c =
+    let p = c.args.p.now in
+    let all = take_all c.loop-e.e-index c.as_slice-e-items.result.now c.loop-e-test.false ∙ c.as_slice-e-items.ensures in
+    record {
+      ints = c.loop-e.invariant.chosen ∙ ap (filter (is_on_pci p)) all;
+      few = omega (arith, c.loop-e.invariant.few, c.loop-e.auto.e-index-end, ap length c.as_slice-e-items.ensures);
+      bytes = c.loop-e.invariant.bytes;
+    }

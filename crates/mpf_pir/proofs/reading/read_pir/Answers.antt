@@ -8,7 +8,7 @@ returns-in-Some-clause-only_table c t is = IsPir-faultless t c.args.bytes.now is
 
 pub returns-clause-only_table : goal.returns-clause-only_table
 returns-clause-only_table c t is =
-    let slots : c.new.result ≡ t.slots = c.new.ensures ∙ AreSlots-one c.in_ok-slots.slots.items t.slots c.args.bytes.now 32 (length c.args.bytes.now) c.in_ok-slots.ensures.slots is.slots in
+    let slots : c.new.result ≡ t.slots = c.new.ensures ∙ AreSlots-one c.in-Ok.slots.items t.slots c.args.bytes.now 32 (length c.args.bytes.now) c.in-Ok.ensures.slots is.slots in
     λ i. record {
       router_bus = sym is.header.router_bus i;
       router_function = sym is.header.router_function i;

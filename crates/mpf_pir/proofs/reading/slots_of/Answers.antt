@@ -17,7 +17,7 @@ pub loop-at-preserved : goal.loop-at-preserved
 loop-at-preserved c =
     let room : c.loop-at.at + 16 ≤ length c.args.bytes.now = fits c.loop-at.at (length c.args.bytes.now) c.loop-at-test.true c.loop-at.invariant.whole in
     record {
-      slots = subst (λ ss. AreSlots ss c.args.bytes.now 32 (c.loop-at.at + 16)) (sym c.in_ok-push.ensures.items) (AreSlots-push c.loop-at.slots.items c.slot_at.result c.args.bytes.now 32 c.loop-at.at c.loop-at.invariant.slots c.slot_at.ensures);
+      slots = subst (λ ss. AreSlots ss c.args.bytes.now 32 (c.loop-at.at + 16)) (sym c.in-Ok.ensures.items) (AreSlots-push c.loop-at.slots.items c.slot_at.result c.args.bytes.now 32 c.loop-at.at c.loop-at.invariant.slots c.slot_at.ensures);
       inside = room;
       whole = rest c.loop-at.at (length c.args.bytes.now) room c.loop-at.invariant.whole;
     }

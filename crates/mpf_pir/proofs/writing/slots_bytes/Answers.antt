@@ -25,6 +25,6 @@ loop-slot-preserved c =
     let i = c.loop-slot.slot-index in
     record {
       slots = subst (λ xs. AreSlots xs c.append.new.out.items 0 (length c.append.new.out.items)) (sym (take_more ss i d (omega (arith, c.loop-slot-test.true))))
-          (pushed (take i ss) (get_or ss i d) c.loop-slot.out.items c.slot_bytes.result c.append.new.out.items (omega arith) c.in_ok-append.ensures.ok (subst (λ xs. IsSlotAt (get_or ss i d) xs 0) (sym c.slot_bytes.ensures) (slot-written (get_or ss i d) c.slot_value.ensures)) c.loop-slot.invariant.slots);
-      size = omega (arith, c.loop-slot.invariant.size, ap length c.in_ok-append.ensures.ok, length-append c.loop-slot.out.items c.slot_bytes.result);
+          (pushed (take i ss) (get_or ss i d) c.loop-slot.out.items c.slot_bytes.result c.append.new.out.items (omega arith) c.in-Ok.ensures.ok (subst (λ xs. IsSlotAt (get_or ss i d) xs 0) (sym c.slot_bytes.ensures) (slot-written (get_or ss i d) c.slot_value.ensures)) c.loop-slot.invariant.slots);
+      size = omega (arith, c.loop-slot.invariant.size, ap length c.in-Ok.ensures.ok, length-append c.loop-slot.out.items c.slot_bytes.result);
     }

@@ -1,33 +1,53 @@
 use Rattle.std.proofs.Common.{arith, ◌∙◌}
 use Rattle.mpt_table.proofs.AreasInside.{areas_inside, areas_short}
 use Rattle.mpt_table.proofs.FromLemmas.{areas-told}
+use Rattle.mpt_table.proofs.ShelfLemmas.{rises, asks_sum, asks_more}
 use Rattle.mpt_table.proofs.search_from.areas_from.Goals as goal
 
-pub returns-clause-told : goal.returns-clause-told
-returns-clause-told g c =
-    areas-told (g.S.Shelf.files c.args.shelf.now) c.args.name.now c.in_ok-ebda.ebda c.in_ok-base_kib.base_kib c.args.size c.areas.result.items c.requires.told
-    c.in_ok-ebda.ensures.told (rw c.in_ok-ebda.ensures.files_stay at c.in_ok-base_kib.ensures.told) c.areas.ensures
+pub returns : goal.returns
+returns g c =
+    let ebda = c.in-Ok.ensures in
+    let base = c.in-Ok-word_from.ensures in
+    let size = c.args.size in
+    record {
+      files_stay = base.files_stay ∙ ebda.files_stay;
+      faults_never_fall = rises _ _ _ ebda.faults_never_fall base.faults_never_fall;
+      misses_stay = base.misses_stay ∙ ebda.misses_stay;
+      asks = asks_sum _ _ _ _ _ ebda.asks base.asks;
+      unread = tt;
+      unfailed = base.unfailed ∙ ebda.unfailed;
+      told = areas-told (g.S.Shelf.files c.args.shelf.now) c.args.name.now c.in-Ok.ebda c.in-Ok-word_from.base_kib size c.areas.result.items c.requires.told ebda.told (rw ebda.files_stay at base.told) c.areas.ensures;
+      areas = rw c.areas.ensures (areas_inside c.in-Ok.ebda c.in-Ok-word_from.base_kib size (omega arith) (omega arith));
+      bytes = rw c.areas.ensures (areas_short c.in-Ok.ebda c.in-Ok-word_from.base_kib size);
+    }
 
-pub returns-clause-areas : goal.returns-clause-areas
-returns-clause-areas g c = rw c.areas.ensures (areas_inside c.in_ok-ebda.ebda c.in_ok-base_kib.base_kib c.args.size (omega arith) (omega arith))
+pub returns-in_default : goal.returns-in_default
+returns-in_default g c =
+    let ebda = c.in_default.ensures in
+    record {
+      files_stay = ebda.files_stay;
+      faults_never_fall = ebda.faults_never_fall;
+      misses_stay = ebda.misses_stay;
+      asks = asks_more _ _ 2 2 ebda.asks;
+      unread = ebda.unread;
+      unfailed = tt;
+      told = tt;
+      areas = tt;
+      bytes = tt;
+    }
 
-pub returns-clause-bytes : goal.returns-clause-bytes
-returns-clause-bytes g c = rw c.areas.ensures (areas_short c.in_ok-ebda.ebda c.in_ok-base_kib.base_kib c.args.size)
-
-pub returns-clause-files_stay : goal.returns-clause-files_stay
-returns-clause-files_stay g c = c.in_ok-base_kib.ensures.files_stay ∙ c.in_ok-ebda.ensures.files_stay
-
-pub returns-clause-misses_stay : goal.returns-clause-misses_stay
-returns-clause-misses_stay g c = c.in_ok-base_kib.ensures.misses_stay ∙ c.in_ok-ebda.ensures.misses_stay
-
-pub returns-clause-faults_never_fall : goal.returns-clause-faults_never_fall
-returns-clause-faults_never_fall g c = omega (arith, c.in_ok-base_kib.ensures.faults_never_fall, c.in_ok-ebda.ensures.faults_never_fall)
-
-pub returns-clause-asks : goal.returns-clause-asks
-returns-clause-asks g c = omega (arith, c.in_ok-base_kib.ensures.asks, c.in_ok-ebda.ensures.asks)
-
-pub returns-clause-unread : goal.returns-clause-unread
-returns-clause-unread g c = tt
-
-pub returns-clause-unfailed : goal.returns-clause-unfailed
-returns-clause-unfailed g c = c.in_ok-base_kib.ensures.unfailed ∙ c.in_ok-ebda.ensures.unfailed
+pub returns-in_default-word_from : goal.returns-in_default-word_from
+returns-in_default-word_from g c =
+    let ebda = c.in-Ok.ensures in
+    let base = c.in_default-word_from.ensures in
+    record {
+      files_stay = base.files_stay ∙ ebda.files_stay;
+      faults_never_fall = rises _ _ _ ebda.faults_never_fall base.faults_never_fall;
+      misses_stay = base.misses_stay ∙ ebda.misses_stay;
+      asks = asks_sum _ _ _ _ _ ebda.asks base.asks;
+      unread = rw ebda.unfailed at base.unread;
+      unfailed = tt;
+      told = tt;
+      areas = tt;
+      bytes = tt;
+    }

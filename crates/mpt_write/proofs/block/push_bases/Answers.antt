@@ -11,8 +11,8 @@ pub loop-entry-preserved : goal.loop-entry-preserved
 loop-entry-preserved c =
     let entries = c.args.entries.now in
     let i = c.loop-entry.entry-index in (
-      appended_more base_bytes entries i _ c.args.out.now.items c.loop-entry.out.items c.write_base.new.out.items (omega (arith, c.loop-entry-test.true)) c.loop-entry.invariant.0 c.in_ok-write_base.ensures.ok,
-      summed_more base_length entries i _ (length c.args.out.now.items) (length c.loop-entry.out.items) (length c.write_base.new.out.items) (omega (arith, c.loop-entry-test.true)) c.loop-entry.invariant.1 c.in_ok-write_base.ensures.size,
+      appended_more base_bytes entries i _ c.args.out.now.items c.loop-entry.out.items c.write_base.new.out.items (omega (arith, c.loop-entry-test.true)) c.loop-entry.invariant.0 c.in-Ok.ensures.ok,
+      summed_more base_length entries i _ (length c.args.out.now.items) (length c.loop-entry.out.items) (length c.write_base.new.out.items) (omega (arith, c.loop-entry-test.true)) c.loop-entry.invariant.1 c.in-Ok.ensures.size,
     )
 
 pub returns-clause-bytes : goal.returns-clause-bytes

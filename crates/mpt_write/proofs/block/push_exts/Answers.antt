@@ -13,9 +13,9 @@ loop-entry-preserved c =
     let i = c.loop-entry.entry-index in
     let entry = c.entry-item.result in (
       appended_more ext_bytes entries i entry c.args.out.now.items c.loop-entry.out.items c.write_ext.new.out.items (omega (arith, c.loop-entry-test.true)) c.loop-entry.invariant.0
-          (c.in_ok-write_ext.ensures.ok ∙ ap (λ x. c.loop-entry.out.items ++ ext_bytes x) c.entry-item.is),
+          (c.in-Ok.ensures.ok ∙ ap (λ x. c.loop-entry.out.items ++ ext_bytes x) c.entry-item.is),
       summed_more ext_length entries i entry (length c.args.out.now.items) (length c.loop-entry.out.items) (length c.write_ext.new.out.items) (omega (arith, c.loop-entry-test.true)) c.loop-entry.invariant.1
-          (c.in_ok-write_ext.ensures.size ∙ ap (λ x. length c.loop-entry.out.items + ext_length x) c.entry-item.is),
+          (c.in-Ok.ensures.size ∙ ap (λ x. length c.loop-entry.out.items + ext_length x) c.entry-item.is),
     )
 
 pub returns-clause-bytes : goal.returns-clause-bytes

@@ -6,4 +6,4 @@ use Rattle.mpt_write.proofs.block.write_block.Goals as goal
 pub returns-clause-own : goal.returns-clause-own
 returns-clause-own c image bytes described =
     let t = c.args.tables.now in
-    subst (λ (xs : List ℕ). part image t.pointer.address (length xs) ≡ xs) (sym c.in_ok-block.ensures.bytes) (IsBodyOf-spelled t.body t.pointer image bytes described.tables_there.body)
+    subst (λ (xs : List ℕ). part image t.pointer.address (length xs) ≡ xs) (sym c.in-Ok.ensures.bytes) (IsBodyOf-spelled t.body t.pointer image bytes described.tables_there.body)

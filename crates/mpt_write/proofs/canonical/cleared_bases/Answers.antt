@@ -6,7 +6,7 @@ use Rattle.mpt_write.proofs.canonical.cleared_bases.Goals as goal
 
 pub loop-entry-preserved : goal.loop-entry-preserved
 loop-entry-preserved c =
-    mapped_more canonical_base c.args.entries.now c.loop-entry.entry-index _ c.cleared.result c.loop-entry.out.items c.push.new.self.items (omega (arith, c.loop-entry-test.true)) c.loop-entry.invariant c.cleared.ensures c.in_ok-push.ensures.items
+    mapped_more canonical_base c.args.entries.now c.loop-entry.entry-index _ c.cleared.result c.loop-entry.out.items c.push.new.self.items (omega (arith, c.loop-entry-test.true)) c.loop-entry.invariant c.cleared.ensures c.in-Ok.ensures.items
 
 pub returns : goal.returns
 returns c = c.loop-entry.invariant ∙ ap (λ es. map canonical_base es) (take_all c.loop-entry.entry-index c.args.entries.now (omega (arith, c.loop-entry-test.false)))

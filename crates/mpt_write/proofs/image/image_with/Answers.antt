@@ -9,9 +9,9 @@ use Rattle.mpt_write.proofs.image.image_with.Goals as goal
 pub returns : goal.returns
 returns c =
     let t = c.args.tables.now in
-    let v = c.in_ok-image.image in
+    let v = c.in-Ok.image in
     let slice : c.as_mut_slice.result.now ≡ v.items = c.as_mut_slice.ensures.value in
-    let zeros : v.items ≡ replicate c.args.size 0 = c.in_ok-image.ensures in
+    let zeros : v.items ≡ replicate c.args.size 0 = c.in-Ok.ensures in
     written_back v.len c.put_all.new.image v.items (omega arith) (c.put_all.auto.image ∙ ap (λ xs. length xs) slice)
     ∙ c.put_all.ensures
     ∙ ap (λ x. overlay (overlay (overlay x 0x40E (to_le_bytes w16 (t.at / 16))) t.at (pointer_bytes t.pointer)) t.pointer.address (body_bytes t.body)) (slice ∙ zeros)
