@@ -1,6 +1,6 @@
 -- Of a drill by its number: its tables fit, its script has the values of one that was read, nothing speaks against their board,
 -- and the ids of its processors are bytes.
-use Rattle.std.proofs.Common.{◌≡◌, ℕ, ◌+◌, ◌*◌, ◌<◌, ◌%◌, ◌/◌, None, List, [], ◌∷◌, sym, subst, arith}
+use Rattle.std.proofs.Common.{◌≡◌, ℕ, ◌<◌, ◌%◌, None, List, [], ◌∷◌, sym, subst, arith}
 use Rattle.std.specs.List.{range_with_len, AllByRecursion}
 use Rattle.mpt_spec.specs.Canonical.{FitsInImage}
 use Rattle.mpt_route.specs.Platform.{platform_of}

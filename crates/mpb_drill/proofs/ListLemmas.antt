@@ -1,8 +1,7 @@
 -- Lists that grow by one member.
-use Rattle.std.proofs.Common.{◌≡◌, ℕ, zero, suc, ◌+◌, ◌*◌, ◌%◌, ◌==◌, Bool, true, false, cond, List, [], ◌∷◌, ◌++◌, map, filter, replicate, refl, sym, ap, ◌∙◌, append_assoc, arith}
+use Rattle.std.proofs.Common.{◌≡◌, ℕ, zero, suc, ◌+◌, ◌≤◌, Bool, true, false, cond, List, [], ◌∷◌, ◌++◌, map, filter, replicate, refl, sym, ap, ◌∙◌, append_assoc, arith}
 use Rattle.std.specs.List.{range_with_len, flat_map}
 use Rattle.std.proofs.lemmas.List.{append-nil, map-append}
-use Rattle.std.proofs.lemmas.List.FromFn.{map-range_with_len_more}
 use Rattle.std.proofs.lemmas.List.Elements.{filter-append}
 use Rattle.std.proofs.lemmas.Grind.{flat_map-append}
 
@@ -22,6 +21,10 @@ pub grows : {A : Type 0} (f : ℕ → A) (n : ℕ) (before now new : List A) →
 grows f n before now new is pushed =
     pushed ∙ ap (λ l. l ++ f n ∷ []) is ∙ append_assoc before (map f (range_with_len 0 n)) (f n ∷ [])
     ∙ ap (λ l. before ++ l) (sym (map-append f (range_with_len 0 n) (n ∷ [])) ∙ ap (map f) (sym (range_next n)))
+
+-- what is so far is all at the end
+pub at_end : {A : Type 0} (f : ℕ → A) (n i : ℕ) (before now : List A) → i ≤ n → n ≤ i → now ≡ before ++ map f (range_with_len 0 i) → now ≡ before ++ map f (range_with_len 0 n)
+at_end f n i before now le ge is = is ∙ ap (λ k. before ++ map f (range_with_len 0 k)) (omega arith)
 
 -- one list more
 pub grows_by : {A : Type 0} (f : ℕ → List A) (n : ℕ) (before now new : List A) → now ≡ before ++ flat_map f (range_with_len 0 n) → new ≡ now ++ f n → new ≡ before ++ flat_map f (range_with_len 0 (n + 1))

@@ -1,19 +1,17 @@
 -- Nothing speaks against the board of a drill.
-use Rattle.std.proofs.Common.{◌≡◌, ◌≤◌, ◌<◌, ℕ, zero, suc, ◌+◌, ◌-◌, ◌*◌, ◌/◌, ◌%◌, ◌==◌, ◌&&◌, ◌||◌, Bool, true, false, cond, List, [], ◌∷◌, ◌++◌, length, map, filter, filter_map, replicate, Option, None, Some, refl, sym, subst, ap, ◌∙◌, arith}
+use Rattle.std.proofs.Common.{◌≡◌, ◌≤◌, ◌<◌, ℕ, zero, suc, ◌+◌, ◌-◌, ◌*◌, ◌/◌, ◌%◌, ◌==◌, ◌&&◌, ◌||◌, Bool, true, false, cond, List, [], ◌∷◌, ◌++◌, length, map, filter, filter_map, replicate, Option, None, Some, refl, ap, ◌∙◌, arith}
 use Rattle.std.specs.Prelude.{find, nat_le, nat_lt, not, is_some, unwrap_or, option_map}
 use Rattle.std.specs.Option.{option_or}
 use Rattle.std.proofs.lemmas.Bool.{leb-true, le-ltb, ne_eqb}
 use Rattle.mpb_spec.specs.declared.fault.BoardError.{BoardError}
 use Rattle.mpb_spec.specs.declared.fault.BoardError.TheVariants as fault
 use Rattle.std.specs.List.{range_with_len, flat_map, list_any, AllByRecursion}
-use Rattle.std.proofs.lemmas.List.{append-nil}
 use Rattle.std.proofs.lemmas.List.FromFn.{length-map-range_with_len}
 use Rattle.mpt_spec.specs.declared.entry.Processor.{Processor}
 use Rattle.mpt_spec.specs.declared.entry.Base.{Base}
 use Rattle.mpt_route.specs.declared.platform.Platform.{Platform}
 use Rattle.mpt_route.specs.Platform.{platform_of, processor_in, io_in, boot_processor_of}
 use Rattle.mpt_route.specs.Routes as routes
-use Rattle.mpb_spec.specs.declared.agent.Op.{Op}
 use Rattle.mpb_spec.specs.declared.agent.Op.TheVariants as op
 use Rattle.mpb_spec.specs.declared.config.DevWord.TheVariants as word
 use Rattle.mpb_spec.specs.Numbers.{has}
@@ -22,7 +20,7 @@ use Rattle.mpb_script.specs.declared.script.CpuScript.{CpuScript}
 use Rattle.mpb_setup.specs.Boot.{is_enabled, boot_id_of}
 use Rattle.mpb_setup.specs.Board.{enabled_ids, io_ids, is_present, all_ids, board_ids}
 use Rattle.mpb_setup.specs.Faults.{least_double, is_op_at, is_word_at, names_place, least_absent_place, fault_if, board_fault_of}
-use Rattle.mpb_drill.specs.Drill.{drill_processors, drill_ioapics, drill_devices, drill_pauses, processor_entry, processor, isa_bus, ioapic, interrupt, entries, tables_of, drill_tables, takes, sends, cpus_of, pulses_of, script_of, drill_script}
+use Rattle.mpb_drill.specs.Drill.{processor_entry, processor, isa_bus, ioapic, interrupt, tables_of, takes, sends, cpus_of, pulses_of, script_of}
 
 -- ---- who is there
 

@@ -1,5 +1,5 @@
 -- The script of a drill has the values of one that was read, and its tables fit.
-use Rattle.std.proofs.Common.{◌≡◌, ◌≤◌, ◌<◌, ℕ, zero, suc, ◌+◌, ◌-◌, ◌*◌, ◌/◌, ◌%◌, ◌==◌, Bool, true, false, cond, List, [], ◌∷◌, ◌++◌, length, map, filter, replicate, refl, sym, subst, ap, ◌∙◌, inl, inr, rules, arith}
+use Rattle.std.proofs.Common.{◌≡◌, ◌≤◌, ◌<◌, ℕ, zero, suc, ◌+◌, ◌-◌, ◌*◌, ◌/◌, ◌%◌, ◌==◌, Bool, true, false, cond, List, [], ◌∷◌, ◌++◌, length, map, filter, replicate, refl, inl, inr, rules, arith}
 use Rattle.std.specs.Prelude.{sum_by, nat_eq}
 use Rattle.std.specs.List.{range_with_len, flat_map, AllByRecursion, IsDistinct}
 use Rattle.std.proofs.lemmas.List.{length-replicate, length-map}
@@ -8,13 +8,11 @@ use Rattle.std.proofs.lemmas.List.Sums.{sum_by-append, sum_by-cons}
 use Rattle.std.proofs.Math.Nat.{suc-mul}
 use Rattle.mpt_spec.specs.declared.entry.Base.{Base}
 use Rattle.mpt_spec.specs.Entries.{base_length}
-use Rattle.mpt_spec.specs.Canonical.{IsWellFormed, FitsInImage, base_size}
-use Rattle.mpb_spec.specs.declared.agent.Op.{Op}
+use Rattle.mpt_spec.specs.Canonical.{FitsInImage}
 use Rattle.mpb_spec.specs.declared.agent.Op.TheVariants as op
 use Rattle.mpb_spec.specs.declared.config.DevWord.{DevWord}
 use Rattle.mpb_spec.specs.declared.config.DevWord.TheVariants as word
 use Rattle.mpb_words.specs.Values.{IsCpuWord, IsDeviceWord}
-use Rattle.mpb_script.specs.declared.script.Script.{Script}
 use Rattle.mpb_script.specs.declared.script.CpuScript.{CpuScript}
 use Rattle.mpb_script.specs.Values.{HasScriptValues}
 use Rattle.mpb_drill.proofs.SoundLemmas.{below, by_7}

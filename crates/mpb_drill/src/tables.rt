@@ -1,33 +1,32 @@
 //! The tables of a drill.
 
-ghost use Rattle.std.specs.Prelude.{◌≡◌, ◌<◌, ◌≤◌, ◌++◌, ◌+◌, map, IfOk, OnOk};
+ghost use Rattle.std.specs.Prelude.{◌≡◌, ◌<◌, ◌≤◌, ◌++◌, ◌+◌, [], map, IfOk, OnOk};
 ghost use Rattle.std.specs.List.{range_with_len, flat_map};
 ghost use Rattle.mpb_drill.specs.Drill.{processor, isa_bus, ioapic, interrupt, entries, tables_of, drill_tables};
 
 use mpb_spec::PINS;
 use mpt_base::NoMemory;
 use mpt_spec::{Base, Body, Bus, IntEntry, IoApic, Pointer, Processor, Sequence, Table, Tables};
-use std::alloc::{AllocError, Global};
+use std::alloc::Global;
 
 /// The tables of the drill with this number, below 10,000.
 pub fn drill_tables(alloc: Global, n: u32) -> Result<Tables, NoMemory>
     requires { n < 10000 }
     ensures tables { IfOk result (λ tables. tables ≡ drill_tables n) }
 {
-    match tables_of(alloc, (2 + n % 7) as u8, (1 + n % 4) as u8) {
-        Ok(tables) => Ok(tables),
-        Err(_) => Err(NoMemory),
-    }
+    tables_of(alloc, (2 + n % 7) as u8, (1 + n % 4) as u8)
 }
 
 // the tables of so many processors and I/O APICs
-fn tables_of(alloc: Global, processors: u8, ioapics: u8) -> Result<Tables, AllocError>
+fn tables_of(alloc: Global, processors: u8, ioapics: u8) -> Result<Tables, NoMemory>
     requires processors { processors ≤ 8 }
     requires ioapics { ioapics ≤ 4 }
     ensures { IfOk result (λ tables. tables ≡ tables_of processors ioapics) }
 {
-    let base = Sequence::new(entries(alloc, processors, ioapics)?);
-    let ext = Sequence::new(Vec::new(alloc));
+    let mut base = Vec::new(alloc);
+    let Ok(()) = push_entries(&mut base, processors, ioapics) else {
+        return Err(NoMemory);
+    };
     Ok(Tables {
         at: 0xF0000,
         pointer: Pointer {
@@ -44,24 +43,29 @@ fn tables_of(alloc: Global, processors: u8, ioapics: u8) -> Result<Tables, Alloc
             local_address: 0xFEE0_0000,
             reserved: 0,
             old: [0; 4],
-            base,
-            ext,
+            base: Sequence::new(base),
+            ext: Sequence::new(Vec::new(alloc)),
         }),
     })
 }
 
 // all entries
-fn entries(alloc: Global, processors: u8, ioapics: u8) -> Result<Vec<Base>, AllocError>
+fn push_entries(base: &mut Vec<Base>, processors: u8, ioapics: u8) -> Result<(), NoMemory>
+    requires none { base.old.items ≡ [] }
     requires processors { processors ≤ 8 }
     requires ioapics { ioapics ≤ 4 }
-    ensures { IfOk result (λ v. v.items ≡ entries processors ioapics) }
+    ensures { OnOk result (base.new.items ≡ entries processors ioapics) }
 {
-    let mut entries = Vec::new(alloc);
-    push_processors(&mut entries, processors)?;
-    entries.push(isa_bus())?;
-    push_ioapics(&mut entries, processors, ioapics)?;
-    push_interrupts(&mut entries, processors, ioapics)?;
-    Ok(entries)
+    let Ok(()) = push_processors(base, processors) else {
+        return Err(NoMemory);
+    };
+    let Ok(()) = base.push(isa_bus()) else {
+        return Err(NoMemory);
+    };
+    let Ok(()) = push_ioapics(base, processors, ioapics) else {
+        return Err(NoMemory);
+    };
+    push_interrupts(base, processors, ioapics)
 }
 
 // a processor
@@ -117,45 +121,53 @@ fn interrupt(id: u8, place: u8, pin: u8) -> Base
 }
 
 // so many processors
-fn push_processors(entries: &mut Vec<Base>, count: u8) -> Result<(), AllocError>
+fn push_processors(entries: &mut Vec<Base>, count: u8) -> Result<(), NoMemory>
     ensures { OnOk result (entries.new.items ≡ entries.old.items ++ map processor (range_with_len 0 count)) }
 {
     for id in 0..count {
-        entries.push(processor(id))?;
+        let Ok(()) = entries.push(processor(id)) else {
+            return Err(NoMemory);
+        };
     }
     Ok(())
 }
 
 // so many I/O APICs, whose ids begin with this one
-fn push_ioapics(entries: &mut Vec<Base>, first: u8, count: u8) -> Result<(), AllocError>
+fn push_ioapics(entries: &mut Vec<Base>, first: u8, count: u8) -> Result<(), NoMemory>
     requires { first + count < 256 }
     ensures { OnOk result (entries.new.items ≡ entries.old.items ++ map (λ a. ioapic (first + a)) (range_with_len 0 count)) }
 {
     for place in 0..count {
-        entries.push(ioapic(first + place))?;
+        let Ok(()) = entries.push(ioapic(first + place)) else {
+            return Err(NoMemory);
+        };
     }
     Ok(())
 }
 
 // an interrupt at each pin of so many I/O APICs, whose ids begin with this one
-fn push_interrupts(entries: &mut Vec<Base>, first: u8, count: u8) -> Result<(), AllocError>
+fn push_interrupts(entries: &mut Vec<Base>, first: u8, count: u8) -> Result<(), NoMemory>
     requires few { count ≤ 4 }
     requires ids { first + count < 256 }
     ensures { OnOk result (entries.new.items ≡ entries.old.items ++ flat_map (λ a. map (interrupt (first + a) a) (range_with_len 0 24)) (range_with_len 0 count)) }
 {
     for place in 0..count {
-        push_pins(entries, first + place, place)?;
+        let Ok(()) = push_pins(entries, first + place, place) else {
+            return Err(NoMemory);
+        };
     }
     Ok(())
 }
 
 // an interrupt at each pin of an I/O APIC
-fn push_pins(entries: &mut Vec<Base>, id: u8, place: u8) -> Result<(), AllocError>
+fn push_pins(entries: &mut Vec<Base>, id: u8, place: u8) -> Result<(), NoMemory>
     requires { place < 4 }
     ensures { OnOk result (entries.new.items ≡ entries.old.items ++ map (interrupt id place) (range_with_len 0 24)) }
 {
     for pin in 0..PINS {
-        entries.push(interrupt(id, place, pin))?;
+        let Ok(()) = entries.push(interrupt(id, place, pin)) else {
+            return Err(NoMemory);
+        };
     }
     Ok(())
 }

@@ -80,7 +80,9 @@ fn differences(
     let mut found = Vec::new(alloc);
     for irq in 0..16u8 {
         if let Some(difference) = difference_at(p, answers, madt, irq) {
-            found.push(difference)?;
+            let Ok(()) = found.push(difference) else {
+                return Err(AllocError);
+            };
         }
     }
     Ok(found)
@@ -104,7 +106,9 @@ pub fn print_line_differences(
 fn push_differences(out: &mut Vec<u8>, differences: &[LineDifference]) -> Result<(), AllocError>
     ensures { OnOk result (out.new.items ≡ out.old.items ++ line_differences_text differences.now) }
 {
-    push_lines(out, differences)?;
+    let Ok(()) = push_lines(out, differences) else {
+        return Err(AllocError);
+    };
     let count = differences.len() as u64;
     push_line(out, &[Part::Text(b"differs "), Part::Decimal(count)])
 }
@@ -113,7 +117,9 @@ fn push_lines(out: &mut Vec<u8>, differences: &[LineDifference]) -> Result<(), A
     ensures { OnOk result (out.new.items ≡ out.old.items ++ flat_map difference_line differences.now) }
 {
     for difference in differences {
-        push_difference(out, *difference)?;
+        let Ok(()) = push_difference(out, *difference) else {
+            return Err(AllocError);
+        };
     }
     Ok(())
 }

@@ -25,7 +25,9 @@ pub fn print_pin_differences(alloc: Global, differences: &[Difference]) -> Resul
 fn push_differences(out: &mut Vec<u8>, differences: &[Difference]) -> Result<(), AllocError>
     ensures { OnOk result (out.new.items ≡ out.old.items ++ pin_differences_text differences.now) }
 {
-    push_lines(out, differences)?;
+    let Ok(()) = push_lines(out, differences) else {
+        return Err(AllocError);
+    };
     let count = differences.len() as u64;
     push_line(out, &[Part::Text(b"differs "), Part::Decimal(count)])
 }
@@ -34,7 +36,9 @@ fn push_lines(out: &mut Vec<u8>, differences: &[Difference]) -> Result<(), Alloc
     ensures { OnOk result (out.new.items ≡ out.old.items ++ flat_map pin_line differences.now) }
 {
     for difference in differences {
-        push_difference(out, *difference)?;
+        let Ok(()) = push_difference(out, *difference) else {
+            return Err(AllocError);
+        };
     }
     Ok(())
 }

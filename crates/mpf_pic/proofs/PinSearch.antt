@@ -1,7 +1,10 @@
 -- The first of all pins is looked for place by place.
 use Rattle.std.proofs.Common.{◌≡◌, ℕ, suc, ◌+◌, ◌-◌, ◌<◌, Bool, true, false, cond, List, [], ◌∷◌, ◌++◌, map, Option, None, Some, option_map, find, refl, sym, ap, ◌∙◌, arith, subst}
 use Rattle.std.specs.List.{range_with_len, flat_map}
-use Rattle.mpf_pic.specs.Wiring.{pins_at}
+use Rattle.std.specs.Prelude.{slice_get}
+use Rattle.mpb_spec.specs.IoApic.{IoChip}
+use Rattle.mpb_spec.specs.State.{Place}
+use Rattle.mpf_pic.specs.Wiring.{pins_at, is_extint_pin, pin_in}
 
 -- what is found in lists one after another
 find-first : {X : Type 0} (p : X → Bool) (xs ys : List X) (x : X) → Some x ≡ find p xs → Some x ≡ find p (xs ++ ys)
@@ -46,3 +49,14 @@ module _ (p : ℕ × ℕ → Bool) (place all : ℕ) (lt : place < all) where
 
 pub found_nowhere : (p : ℕ × ℕ → Bool) (place k : ℕ) → k ≡ 0 → find p (pins_from place k) ≡ None
 found_nowhere p place k e = ap (λ (j : ℕ). find p (pins_from place j)) e
+
+-- the pin of an I/O APIC is that of its place
+pub pin_of_chip : (boot : ℕ) (chip : IoChip) (o : Option Place) → Some chip ≡ option_map (λ p. p.chip) o → find (λ n. is_extint_pin boot (slice_get chip.pins n)) (range_with_len 0 24) ≡ find (λ n. is_extint_pin boot (pin_in n o)) (range_with_len 0 24)
+pin_of_chip boot chip None e = absurd cc
+pin_of_chip boot chip (Some p) e =
+    let same : chip ≡ p.chip = cc in
+    ap (λ (a : IoChip). find (λ n. is_extint_pin boot (slice_get a.pins n)) (range_with_len 0 24)) same
+
+pub pin_of_none : (boot : ℕ) (o : Option Place) → None ≡ option_map (λ p. p.chip) o → None ≡ find (λ n. is_extint_pin boot (pin_in n o)) (range_with_len 0 24)
+pin_of_none boot None e = refl
+pin_of_none boot (Some p) e = absurd cc

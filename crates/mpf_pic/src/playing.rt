@@ -45,7 +45,9 @@ fn push_play(out: &mut Vec<u8>, w: Wiring, ops: &[PicOp]) -> Result<(), AllocErr
         pair: Pair::new(),
         wiring: w,
     };
-    push_answers(out, &mut play, ops)?;
+    let Ok(()) = push_answers(out, &mut play, ops) else {
+        return Err(AllocError);
+    };
     push_line(out, &[Part::Text(b"end")])
 }
 
@@ -57,7 +59,9 @@ fn push_answers(out: &mut Vec<u8>, play: &mut WiredPair, ops: &[PicOp]) -> Resul
     match ops {
         [] => Ok(()),
         [op, rest @ ..] => {
-            push_answer(out, play, *op)?;
+            let Ok(()) = push_answer(out, play, *op) else {
+                return Err(AllocError);
+            };
             push_answers(out, play, rest)
         }
     }
@@ -128,9 +132,7 @@ fn acknowledge(play: &mut WiredPair) -> Option<u8>
 {
     match play.wiring.path() {
         Path::Closed => None,
-        Path::Direct => play.pair.ack(),
-        Path::Lint => play.pair.ack(),
-        Path::Io { .. } => play.pair.ack(),
+        Path::Direct | Path::Lint | Path::Io { .. } => play.pair.ack(),
     }
 }
 

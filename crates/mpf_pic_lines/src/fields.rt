@@ -29,8 +29,12 @@ pub(crate) fn read_digit(line: &[u8]) -> Option<(u8, &[u8])>
     ensures value { Gives (λ x. (x.0, x.1.now)) result (digit_in line.now) }
     ensures bound { IfSome result (λ x. x.0 < 16) }
 {
-    let (first, rest) = line.split_first()?;
-    let digit = digit_of(*first)?;
+    let Some((first, rest)) = line.split_first() else {
+        return None;
+    };
+    let Some(digit) = digit_of(*first) else {
+        return None;
+    };
     Some((digit, rest))
 }
 
@@ -39,7 +43,11 @@ pub(crate) fn read_digit(line: &[u8]) -> Option<(u8, &[u8])>
 pub(crate) fn read_byte(line: &[u8]) -> Option<(u8, &[u8])>
     ensures { Gives (λ x. (x.0, x.1.now)) result (byte_in line.now) }
 {
-    let (high, rest) = read_digit(line)?;
-    let (low, rest) = read_digit(rest)?;
+    let Some((high, rest)) = read_digit(line) else {
+        return None;
+    };
+    let Some((low, rest)) = read_digit(rest) else {
+        return None;
+    };
     Some((16 * high + low, rest))
 }

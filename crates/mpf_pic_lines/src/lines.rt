@@ -36,7 +36,9 @@ fn read_op(line: &[u8]) -> Option<(PicOp, &[u8])>
     if let Some(found) = read_high_irq(line) {
         return Some(found);
     }
-    let rest = read_part(line, b"ack\n")?;
+    let Some(rest) = read_part(line, b"ack\n") else {
+        return None;
+    };
     Some((PicOp::Ack, rest))
 }
 
@@ -71,12 +73,24 @@ fn out_of(number: u8, v: u8) -> Option<PicOp>
 fn read_out(line: &[u8]) -> Option<(PicOp, &[u8])>
     ensures { Gives (λ x. (x.0, x.1.now)) result (out_in line.now) }
 {
-    let rest = read_part(line, b"out ")?;
-    let (number, rest) = read_byte(rest)?;
-    let rest = read_part(rest, b" ")?;
-    let (v, rest) = read_byte(rest)?;
-    let rest = read_part(rest, b"\n")?;
-    let op = out_of(number, v)?;
+    let Some(rest) = read_part(line, b"out ") else {
+        return None;
+    };
+    let Some((number, rest)) = read_byte(rest) else {
+        return None;
+    };
+    let Some(rest) = read_part(rest, b" ") else {
+        return None;
+    };
+    let Some((v, rest)) = read_byte(rest) else {
+        return None;
+    };
+    let Some(rest) = read_part(rest, b"\n") else {
+        return None;
+    };
+    let Some(op) = out_of(number, v) else {
+        return None;
+    };
     Some((op, rest))
 }
 
@@ -85,10 +99,18 @@ fn read_out(line: &[u8]) -> Option<(PicOp, &[u8])>
 fn read_get(line: &[u8]) -> Option<(PicOp, &[u8])>
     ensures { Gives (λ x. (x.0, x.1.now)) result (get_in line.now) }
 {
-    let rest = read_part(line, b"in ")?;
-    let (number, rest) = read_byte(rest)?;
-    let rest = read_part(rest, b"\n")?;
-    let port = port_of(number)?;
+    let Some(rest) = read_part(line, b"in ") else {
+        return None;
+    };
+    let Some((number, rest)) = read_byte(rest) else {
+        return None;
+    };
+    let Some(rest) = read_part(rest, b"\n") else {
+        return None;
+    };
+    let Some(port) = port_of(number) else {
+        return None;
+    };
     Some((PicOp::Get(port), rest))
 }
 
@@ -100,7 +122,9 @@ fn read_way(line: &[u8]) -> Option<(bool, &[u8])>
     if let Some(rest) = read_part(line, b" up\n") {
         return Some((true, rest));
     }
-    let rest = read_part(line, b" down\n")?;
+    let Some(rest) = read_part(line, b" down\n") else {
+        return None;
+    };
     Some((false, rest))
 }
 
@@ -116,12 +140,18 @@ fn drive_of(n: u8, up: bool) -> PicOp
 fn read_low_irq(line: &[u8]) -> Option<(PicOp, &[u8])>
     ensures { Gives (λ x. (x.0, x.1.now)) result (low_irq_in line.now) }
 {
-    let rest = read_part(line, b"irq ")?;
-    let (n, rest) = read_digit(rest)?;
+    let Some(rest) = read_part(line, b"irq ") else {
+        return None;
+    };
+    let Some((n, rest)) = read_digit(rest) else {
+        return None;
+    };
     if n >= 10 || n == 2 {
         return None;
     }
-    let (up, rest) = read_way(rest)?;
+    let Some((up, rest)) = read_way(rest) else {
+        return None;
+    };
     Some((drive_of(n, up), rest))
 }
 
@@ -130,11 +160,17 @@ fn read_low_irq(line: &[u8]) -> Option<(PicOp, &[u8])>
 fn read_high_irq(line: &[u8]) -> Option<(PicOp, &[u8])>
     ensures { Gives (λ x. (x.0, x.1.now)) result (high_irq_in line.now) }
 {
-    let rest = read_part(line, b"irq 1")?;
-    let (n, rest) = read_digit(rest)?;
+    let Some(rest) = read_part(line, b"irq 1") else {
+        return None;
+    };
+    let Some((n, rest)) = read_digit(rest) else {
+        return None;
+    };
     if n >= 6 {
         return None;
     }
-    let (up, rest) = read_way(rest)?;
+    let Some((up, rest)) = read_way(rest) else {
+        return None;
+    };
     Some((drive_of(10 + n, up), rest))
 }

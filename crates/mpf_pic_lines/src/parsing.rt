@@ -42,9 +42,9 @@ fn read_ops(alloc: Global, text: &[u8]) -> Result<Vec<PicOp>, PicFault>
                 line: ops.len() as u32 + 1,
             });
         };
-        if ops.push(op).is_err() {
+        let Ok(()) = ops.push(op) else {
             return Err(PicFault::NoMemory);
-        }
+        };
         rest = after;
     }
     Ok(ops)

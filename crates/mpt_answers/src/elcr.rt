@@ -28,7 +28,19 @@ fn joined(a: Option<u16>, b: Option<u16>, c: Option<u16>, d: Option<u16>) -> Opt
     requires d { IfSome d (λ n. n < 16) }
     ensures { result ≡ joined a b c d }
 {
-    Some(4096 * a? + 256 * b? + 16 * c? + d?)
+    let Some(a) = a else {
+        return None;
+    };
+    let Some(b) = b else {
+        return None;
+    };
+    let Some(c) = c else {
+        return None;
+    };
+    let Some(d) = d else {
+        return None;
+    };
+    Some(4096 * a + 256 * b + 16 * c + d)
 }
 
 // the value of a digit

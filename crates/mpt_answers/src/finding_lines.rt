@@ -25,7 +25,9 @@ pub fn print_findings(alloc: Global, findings: &[Finding]) -> Result<Vec<u8>, No
 fn push_findings(out: &mut Vec<u8>, findings: &[Finding]) -> Result<(), AllocError>
     ensures { OnOk result (out.new.items ≡ out.old.items ++ findings_text findings.now) }
 {
-    push_finding_lines(out, findings)?;
+    let Ok(()) = push_finding_lines(out, findings) else {
+        return Err(AllocError);
+    };
     let count = findings.len() as u64;
     push_line(out, &[Part::Text(b"findings "), Part::Decimal(count)])
 }
@@ -34,7 +36,9 @@ fn push_finding_lines(out: &mut Vec<u8>, findings: &[Finding]) -> Result<(), All
     ensures { OnOk result (out.new.items ≡ out.old.items ++ flat_map finding_line findings.now) }
 {
     for finding in findings {
-        push_finding(out, *finding)?;
+        let Ok(()) = push_finding(out, *finding) else {
+            return Err(AllocError);
+        };
     }
     Ok(())
 }

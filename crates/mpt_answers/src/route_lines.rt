@@ -25,7 +25,9 @@ fn push_answers(out: &mut Vec<u8>, answers: &[Answer]) -> Result<(), AllocError>
     ensures { OnOk result (out.new.items ≡ out.old.items ++ flat_map route_line answers.now) }
 {
     for answer in answers {
-        push_answer(out, answer)?;
+        let Ok(()) = push_answer(out, answer) else {
+            return Err(AllocError);
+        };
     }
     Ok(())
 }

@@ -105,7 +105,9 @@ fn audit_by(
 {
     let mut out = Vec::new(alloc);
     for n in 0..24u8 {
-        audit_rule(&mut out, pointer, table, bases, exts, n)?;
+        let Ok(()) = audit_rule(&mut out, pointer, table, bases, exts, n) else {
+            return Err(AllocError);
+        };
     }
     Ok(out)
 }
@@ -115,8 +117,12 @@ fn audit_table(alloc: Global, pointer: &Pointer, table: &Table) -> Result<Vec<Fi
     requires ext { length table.now.ext ≤ 65535 }
     ensures { IfOk result (λ found. ListsInOrder (IsTableFinding pointer.now table.now) found.items) }
 {
-    let bases = base_index_of(alloc, table.base.as_slice())?;
-    let exts = ext_index_of(alloc, table.ext.as_slice())?;
+    let Ok(bases) = base_index_of(alloc, table.base.as_slice()) else {
+        return Err(AllocError);
+    };
+    let Ok(exts) = ext_index_of(alloc, table.ext.as_slice()) else {
+        return Err(AllocError);
+    };
     audit_by(alloc, pointer, table, &bases, &exts)
 }
 
@@ -125,11 +131,14 @@ fn audit_pointer(alloc: Global, pointer: &Pointer) -> Result<Vec<Finding>, Alloc
 {
     let mut out = Vec::new(alloc);
     if !pointer.has_clear_bits() {
-        out.push(Finding {
+        let found = Finding {
             rule: 15,
             entry: 65535,
             other: 65535,
-        })?;
+        };
+        let Ok(()) = out.push(found) else {
+            return Err(AllocError);
+        };
     }
     Ok(out)
 }

@@ -37,7 +37,9 @@ fn read_base(line: &[u8]) -> Option<(Base, &[u8])>
     if let Some((entry, rest)) = read_interrupt(line, b"ioint") {
         return Some((Base::IoInt(entry), rest));
     }
-    let (entry, rest) = read_interrupt(line, b"localint")?;
+    let Some((entry, rest)) = read_interrupt(line, b"localint") else {
+        return None;
+    };
     Some((Base::LocalInt(entry), rest))
 }
 

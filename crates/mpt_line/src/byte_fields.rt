@@ -58,7 +58,9 @@ pub(crate) fn read_bytes_field<'a>(
 ) -> Option<&'a [u8]>
     ensures { Gives (λ rest. (bytes.new, rest.now)) result (bytes_field_in text.now (length bytes.old) line.now) }
 {
-    let rest = read_part(line, text)?;
+    let Some(rest) = read_part(line, text) else {
+        return None;
+    };
     fill_hex(bytes, rest)
 }
 
@@ -71,6 +73,8 @@ pub(crate) fn read_quoted_field<'a>(
 ) -> Option<&'a [u8]>
     ensures { Gives (λ rest. (bytes.new, rest.now)) result (quoted_field_in text.now (length bytes.old) line.now) }
 {
-    let rest = read_part(line, text)?;
+    let Some(rest) = read_part(line, text) else {
+        return None;
+    };
     fill_quoted(bytes, rest)
 }

@@ -36,7 +36,10 @@ fn read_ext(alloc: Global, line: &[u8]) -> Result<Option<(Ext, &[u8])>, AllocErr
     if let Some((entry, rest)) = read_modifier(line) {
         return Ok(Some((Ext::Modifier(entry), rest)));
     }
-    match read_opaque(alloc, line)? {
+    let Ok(found) = read_opaque(alloc, line) else {
+        return Err(AllocError);
+    };
+    match found {
         Some((entry, rest)) => Ok(Some((Ext::Opaque(entry), rest))),
         None => Ok(None),
     }
@@ -132,7 +135,9 @@ fn push_run<'a>(out: &mut Vec<u8>, line: &'a [u8], limit: usize) -> Result<&'a [
         let Some((byte, after)) = read_byte(rest) else {
             return Ok(rest);
         };
-        out.push(byte)?;
+        let Ok(()) = out.push(byte) else {
+            return Err(AllocError);
+        };
         rest = after;
     }
     Ok(rest)
@@ -143,11 +148,13 @@ fn push_run<'a>(out: &mut Vec<u8>, line: &'a [u8], limit: usize) -> Result<&'a [
 fn read_rest(alloc: Global, line: &[u8]) -> Result<Option<(Vec<u8>, &[u8])>, AllocError>
     ensures { IfOk result (λ o. Gives (λ x. (x.0.items, x.1.now)) o (rest_in line.now)) }
 {
-    let mut bytes = Vec::new(alloc);
     if let Some(rest) = read_part(line, b"-") {
-        return Ok(Some((bytes, rest)));
+        return Ok(Some((Vec::new(alloc), rest)));
     }
-    let rest = push_run(&mut bytes, line, 253)?;
+    let mut bytes = Vec::new(alloc);
+    let Ok(rest) = push_run(&mut bytes, line, 253) else {
+        return Err(AllocError);
+    };
     if bytes.is_empty() {
         Ok(None)
     } else {
@@ -165,7 +172,10 @@ fn read_opaque(alloc: Global, line: &[u8]) -> Result<Option<(Opaque, &[u8])>, Al
     let Some(rest) = read_part(rest, b" rest ") else {
         return Ok(None);
     };
-    let Some((bytes, rest)) = read_rest(alloc, rest)? else {
+    let Ok(found) = read_rest(alloc, rest) else {
+        return Err(AllocError);
+    };
+    let Some((bytes, rest)) = found else {
         return Ok(None);
     };
     let Some(rest) = read_end(rest) else {

@@ -128,7 +128,9 @@ pub fn read_field<'a>(line: &'a [u8], text: &[u8], digits: u32) -> Option<(u64, 
     ensures value { Gives (λ x. (x.0, x.1.now)) result (field_in text.now digits line.now) }
     ensures bound { IfSome result (λ x. x.0 < 16 ^ digits) }
 {
-    let rest = read_part(line, text)?;
+    let Some(rest) = read_part(line, text) else {
+        return None;
+    };
     read_hex(rest, digits)
 }
 
@@ -136,7 +138,9 @@ pub fn read_field<'a>(line: &'a [u8], text: &[u8], digits: u32) -> Option<(u64, 
 pub fn read_u8_field<'a>(line: &'a [u8], text: &[u8]) -> Option<(u8, &'a [u8])>
     ensures { Gives (λ x. (x.0, x.1.now)) result (field_in text.now 2 line.now) }
 {
-    let (number, rest) = read_field(line, text, 2)?;
+    let Some((number, rest)) = read_field(line, text, 2) else {
+        return None;
+    };
     Some((number as u8, rest))
 }
 
@@ -144,7 +148,9 @@ pub fn read_u8_field<'a>(line: &'a [u8], text: &[u8]) -> Option<(u8, &'a [u8])>
 pub(crate) fn read_u16_field<'a>(line: &'a [u8], text: &[u8]) -> Option<(u16, &'a [u8])>
     ensures { Gives (λ x. (x.0, x.1.now)) result (field_in text.now 4 line.now) }
 {
-    let (number, rest) = read_field(line, text, 4)?;
+    let Some((number, rest)) = read_field(line, text, 4) else {
+        return None;
+    };
     Some((number as u16, rest))
 }
 
@@ -152,7 +158,9 @@ pub(crate) fn read_u16_field<'a>(line: &'a [u8], text: &[u8]) -> Option<(u16, &'
 pub fn read_u32_field<'a>(line: &'a [u8], text: &[u8]) -> Option<(u32, &'a [u8])>
     ensures { Gives (λ x. (x.0, x.1.now)) result (field_in text.now 8 line.now) }
 {
-    let (number, rest) = read_field(line, text, 8)?;
+    let Some((number, rest)) = read_field(line, text, 8) else {
+        return None;
+    };
     Some((number as u32, rest))
 }
 
@@ -161,7 +169,9 @@ pub fn read_u32_field<'a>(line: &'a [u8], text: &[u8]) -> Option<(u32, &'a [u8])
 pub(crate) fn read_quoted_byte(line: &[u8]) -> Option<(u8, &[u8])>
     ensures { Gives (λ x. (x.0, x.1.now)) result (quoted_byte_in line.now) }
 {
-    let (first, rest) = line.split_first()?;
+    let Some((first, rest)) = line.split_first() else {
+        return None;
+    };
     if is_plain(*first) {
         Some((*first, rest))
     } else {

@@ -1,8 +1,8 @@
 //! The lines of a listing read from the left: each reader gives the value whose line begins a text, and
 //! what follows that line. The format is this project's own.
 //!
-//! Where a reader has several steps, each that may fail is a `let .. else` and not a `?`, since it is
-//! proved in half the time.
+//! Each step of a reader that may fail is a `let .. else` and not a `?`, since it is proved in half the
+//! time.
 #![tactic(auto)]
 
 mod base_lines;

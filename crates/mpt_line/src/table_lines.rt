@@ -150,6 +150,8 @@ fn read_header_end(line: &[u8]) -> Option<(HeaderEnd, &[u8])>
     if let Some(rest) = read_bytes_field(&mut old, line, b" old ") {
         return Some((HeaderEnd::Old(old), rest));
     }
-    let (reserved, rest) = read_u8_field(line, b" reserved ")?;
+    let Some((reserved, rest)) = read_u8_field(line, b" reserved ") else {
+        return None;
+    };
     Some((HeaderEnd::Reserved(reserved), rest))
 }

@@ -28,9 +28,15 @@ pub fn print(alloc: Global, tables: &Tables) -> Result<Vec<u8>, NoMemory>
 fn push_listing(out: &mut Vec<u8>, tables: &Tables) -> Result<(), AllocError>
     ensures { OnOk result (out.new.items ≡ out.old.items ++ listing_of tables.now) }
 {
-    push_line(out, &[Part::Text(b"mptable 1")])?;
-    push_pointer_line(out, tables)?;
-    push_body(out, &tables.body)?;
+    let Ok(()) = push_line(out, &[Part::Text(b"mptable 1")]) else {
+        return Err(AllocError);
+    };
+    let Ok(()) = push_pointer_line(out, tables) else {
+        return Err(AllocError);
+    };
+    let Ok(()) = push_body(out, &tables.body) else {
+        return Err(AllocError);
+    };
     push_line(out, &[Part::Text(b"end")])
 }
 
@@ -40,8 +46,12 @@ fn push_body(out: &mut Vec<u8>, body: &Body) -> Result<(), AllocError>
     match body {
         Body::Default(_) => Ok(()),
         Body::Listed(table) => {
-            push_header_line(out, table)?;
-            push_base_lines(out, table.base.as_slice())?;
+            let Ok(()) = push_header_line(out, table) else {
+                return Err(AllocError);
+            };
+            let Ok(()) = push_base_lines(out, table.base.as_slice()) else {
+                return Err(AllocError);
+            };
             push_ext_lines(out, table.ext.as_slice())
         }
     }
@@ -51,7 +61,9 @@ fn push_base_lines(out: &mut Vec<u8>, entries: &[Base]) -> Result<(), AllocError
     ensures { OnOk result (out.new.items ≡ out.old.items ++ flat_map base_line entries.now) }
 {
     for entry in entries {
-        push_base_line(out, entry)?;
+        let Ok(()) = push_base_line(out, entry) else {
+            return Err(AllocError);
+        };
     }
     Ok(())
 }
@@ -60,7 +72,9 @@ fn push_ext_lines(out: &mut Vec<u8>, entries: &[Ext]) -> Result<(), AllocError>
     ensures { OnOk result (out.new.items ≡ out.old.items ++ flat_map ext_line entries.now) }
 {
     for entry in entries {
-        push_ext_line(out, entry)?;
+        let Ok(()) = push_ext_line(out, entry) else {
+            return Err(AllocError);
+        };
     }
     Ok(())
 }

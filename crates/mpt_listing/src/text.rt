@@ -31,9 +31,13 @@ pub fn push_line(out: &mut Vec<u8>, parts: &[Part]) -> Result<(), AllocError>
     ensures { OnOk result (out.new.items ≡ out.old.items ++ line (map part_text parts.now)) }
 {
     for part in parts {
-        push_part(out, part)?;
+        let Ok(()) = push_part(out, part) else {
+            return Err(AllocError);
+        };
     }
-    out.push(b'\n')?;
+    let Ok(()) = out.push(b'\n') else {
+        return Err(AllocError);
+    };
     Ok(())
 }
 
@@ -65,8 +69,12 @@ pub fn push_hex(out: &mut Vec<u8>, digits: u32, number: u64) -> Result<(), Alloc
     if digits == 0 {
         return Ok(());
     }
-    push_hex(out, digits - 1, number / 16)?;
-    out.push(hex_digit((number % 16) as u8))?;
+    let Ok(()) = push_hex(out, digits - 1, number / 16) else {
+        return Err(AllocError);
+    };
+    let Ok(()) = out.push(hex_digit((number % 16) as u8)) else {
+        return Err(AllocError);
+    };
     Ok(())
 }
 
@@ -94,7 +102,9 @@ pub fn push_hex_bytes(out: &mut Vec<u8>, bytes: &[u8]) -> Result<(), AllocError>
     ensures { OnOk result (out.new.items ≡ out.old.items ++ hex_bytes bytes.now) }
 {
     let alloc = *out.allocator();
-    let digits = encode_upper(alloc, bytes)?;
+    let Ok(digits) = encode_upper(alloc, bytes) else {
+        return Err(AllocError);
+    };
     out.extend_from_slice(digits.as_bytes())
 }
 
@@ -103,11 +113,17 @@ pub fn push_hex_bytes(out: &mut Vec<u8>, bytes: &[u8]) -> Result<(), AllocError>
 pub fn push_quoted(out: &mut Vec<u8>, bytes: &[u8]) -> Result<(), AllocError>
     ensures { OnOk result (out.new.items ≡ out.old.items ++ quoted bytes.now) }
 {
-    out.push(b'"')?;
+    let Ok(()) = out.push(b'"') else {
+        return Err(AllocError);
+    };
     for byte in bytes {
-        push_quoted_byte(out, *byte)?;
+        let Ok(()) = push_quoted_byte(out, *byte) else {
+            return Err(AllocError);
+        };
     }
-    out.push(b'"')?;
+    let Ok(()) = out.push(b'"') else {
+        return Err(AllocError);
+    };
     Ok(())
 }
 
@@ -115,10 +131,14 @@ fn push_quoted_byte(out: &mut Vec<u8>, byte: u8) -> Result<(), AllocError>
     ensures { OnOk result (out.new.items ≡ out.old.items ++ quoted_byte byte) }
 {
     if is_plain(byte) {
-        out.push(byte)?;
+        let Ok(()) = out.push(byte) else {
+            return Err(AllocError);
+        };
         Ok(())
     } else {
-        push_text(out, b"\\x")?;
+        let Ok(()) = push_text(out, b"\\x") else {
+            return Err(AllocError);
+        };
         push_hex(out, 2, byte as u64)
     }
 }

@@ -1,6 +1,6 @@
 -- The lines of entries, one at a time, and the first bad line behind them.
 use Rattle.std.proofs.Common.{◌≡◌, ℕ, ◌+◌, ◌<◌, ◌≤◌, true, false, List, [], ◌∷◌, ◌++◌, length, map, sym, refl, ap, ◌∙◌, inl, inr, ◌⊎◌, append_assoc, append-nil, length-append, arith}
-use Rattle.std.specs.Prelude.{◌==◌, ◌≢◌, ◌||◌, if◌then◌else◌}
+use Rattle.std.specs.Prelude.{◌==◌, ◌≢◌, ◌||◌, if◌then◌else◌, Result, Ok, Err, IfOk}
 use Rattle.std.specs.List.{AllByRecursion, flat_map}
 use Rattle.std.proofs.lemmas.List.Concat.{flat_map-append}
 use Rattle.std.proofs.lemmas.Bool.Decides.{nat_tests}
@@ -77,6 +77,12 @@ old_follow head (e ∷ es) v one = absurd (v.0.revision one)
 
 pub new_follow : (head : HeaderLine) (es : List Ext) (text rest : List ℕ) → head.revision ≢ 1 → AreFirstLines ext_line IsRightExt es text rest → AreFirstLines ext_line (MayFollow head) es text rest
 new_follow head es text rest new p = record { whole = p.whole; values = all_follow head es (λ one. absurd (new one)) p.values; last = λ e follow m. p.last e follow m.right }
+
+-- the same of what is read, unless memory ran out
+pub read_follow : {X E : Type 0} (items : X → List Ext) (rest : X → List ℕ) (head : HeaderLine) (text : List ℕ) → head.revision ≢ 1 → (r : Result X E)
+    → IfOk r (λ x. AreFirstLines ext_line IsRightExt (items x) text (rest x)) → IfOk r (λ x. AreFirstLines ext_line (MayFollow head) (items x) text (rest x))
+read_follow items rest head text new (Ok x) first = new_follow head (items x) text (rest x) new first
+read_follow items rest head text new (Err e) first = tt
 
 -- the lines behind this header
 module _ (head : HeaderLine) where

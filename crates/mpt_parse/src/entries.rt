@@ -17,7 +17,9 @@ pub(crate) fn read_base_lines(alloc: Global, text: &[u8]) -> Result<(Vec<Base>, 
     let mut entries = Vec::new(alloc);
     let mut rest = text;
     while let Some((entry, after)) = read_base_line(rest) {
-        entries.push(entry)?;
+        let Ok(()) = entries.push(entry) else {
+            return Err(AllocError);
+        };
         rest = after;
     }
     Ok((entries, rest))
@@ -29,11 +31,18 @@ fn read_ext_lines(alloc: Global, text: &[u8]) -> Result<(Vec<Ext>, &[u8]), Alloc
 {
     let mut entries = Vec::new(alloc);
     let mut rest = text;
-    while let Some((entry, after)) = read_ext_line(alloc, rest)? {
-        entries.push(entry)?;
+    loop {
+        let Ok(line) = read_ext_line(alloc, rest) else {
+            return Err(AllocError);
+        };
+        let Some((entry, after)) = line else {
+            return Ok((entries, rest));
+        };
+        let Ok(()) = entries.push(entry) else {
+            return Err(AllocError);
+        };
         rest = after;
     }
-    Ok((entries, rest))
 }
 
 /// The extended entries that may follow the header and whose lines begin the text, as many as there are,
@@ -48,8 +57,5 @@ pub(crate) fn read_ext_part<'a>(
     if header.revision == OLD_REVISION {
         return Ok((Vec::new(alloc), text));
     }
-    match read_ext_lines(alloc, text) {
-        Ok((entries, rest)) => Ok((entries, rest)),
-        Err(failed) => Err(failed),
-    }
+    read_ext_lines(alloc, text)
 }

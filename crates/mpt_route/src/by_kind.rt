@@ -42,11 +42,31 @@ fn gather_entry(kinds: &mut ByKind, entry: Base) -> Result<(), AllocError>
     ensures { OnOk result ((es : List BaseOf) → AreByKind es kinds.old → AreByKind (es ++ entry ∷ []) kinds.new) }
 {
     match entry {
-        Base::Processor(e) => kinds.processors.push(e)?,
-        Base::Bus(e) => kinds.buses.push(e)?,
-        Base::IoApic(e) => kinds.ios.push(e)?,
-        Base::IoInt(e) => kinds.ints.push(e)?,
-        Base::LocalInt(e) => kinds.lints.push(e)?,
+        Base::Processor(e) => {
+            let Ok(()) = kinds.processors.push(e) else {
+                return Err(AllocError);
+            };
+        }
+        Base::Bus(e) => {
+            let Ok(()) = kinds.buses.push(e) else {
+                return Err(AllocError);
+            };
+        }
+        Base::IoApic(e) => {
+            let Ok(()) = kinds.ios.push(e) else {
+                return Err(AllocError);
+            };
+        }
+        Base::IoInt(e) => {
+            let Ok(()) = kinds.ints.push(e) else {
+                return Err(AllocError);
+            };
+        }
+        Base::LocalInt(e) => {
+            let Ok(()) = kinds.lints.push(e) else {
+                return Err(AllocError);
+            };
+        }
     }
     Ok(())
 }
@@ -57,7 +77,9 @@ pub fn gather(kinds: &mut ByKind, entries: &[Base]) -> Result<(), AllocError>
     ensures { OnOk result (AreByKind entries.now kinds.new) }
 {
     for entry in entries {
-        gather_entry(kinds, *entry)?;
+        let Ok(()) = gather_entry(kinds, *entry) else {
+            return Err(AllocError);
+        };
     }
     Ok(())
 }

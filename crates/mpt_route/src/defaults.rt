@@ -99,12 +99,14 @@ fn put_buses(buses: &mut Vec<Bus>, row: DefaultRow) -> Result<(), AllocError>
     ensures { OnOk result (buses.new.items ≡ default_buses row) }
 {
     let name = row.bus;
-    buses.push(Bus { id: 0, name })?;
+    let Ok(()) = buses.push(Bus { id: 0, name }) else {
+        return Err(AllocError);
+    };
     if row.pci {
-        buses.push(Bus {
-            id: 1,
-            name: *b"PCI   ",
-        })?;
+        let name = *b"PCI   ";
+        let Ok(()) = buses.push(Bus { id: 1, name }) else {
+            return Err(AllocError);
+        };
     }
     Ok(())
 }
@@ -115,10 +117,14 @@ fn put_ints(ints: &mut Vec<IntEntry>, number: u8) -> Result<(), AllocError>
     requires { ints.old.items ≡ [] }
     ensures { OnOk result (ints.new.items ≡ default_ints number) }
 {
-    ints.push(interrupt(3, 0, 2, 0))?;
+    let Ok(()) = ints.push(interrupt(3, 0, 2, 0)) else {
+        return Err(AllocError);
+    };
     for irq in 0..16 {
         if is_connected(number, irq) {
-            ints.push(int_row(irq))?;
+            let Ok(()) = ints.push(int_row(irq)) else {
+                return Err(AllocError);
+            };
         }
     }
     Ok(())
@@ -130,20 +136,26 @@ fn put_default(kinds: &mut ByKind, number: u8) -> Result<(), AllocError>
     ensures { OnOk result ((imcr : Bool) → platform_with kinds.new imcr 0xFEE00000 ≡ platform_of_body imcr (body.Default number)) }
 {
     let row = default_row(number);
-    kinds.processors.extend_from_slice(&[
-        processor(0, row.local, 0x03),
-        processor(1, row.local, 0x01),
-    ])?;
-    put_buses(&mut kinds.buses, row)?;
-    kinds.ios.push(IoApic {
+    let processors = [processor(0, row.local, 0x03), processor(1, row.local, 0x01)];
+    let Ok(()) = kinds.processors.extend_from_slice(&processors) else {
+        return Err(AllocError);
+    };
+    let Ok(()) = put_buses(&mut kinds.buses, row) else {
+        return Err(AllocError);
+    };
+    let io = IoApic {
         id: 2,
         version: row.io,
         flags: 0x01,
         address: 0xFEC0_0000,
-    })?;
-    put_ints(&mut kinds.ints, number)?;
-    kinds.lints.extend_from_slice(&[interrupt(3, 0, ALL_APICS, 0), interrupt(1, 0, ALL_APICS, 1)])?;
-    Ok(())
+    };
+    let Ok(()) = kinds.ios.push(io) else {
+        return Err(AllocError);
+    };
+    let Ok(()) = put_ints(&mut kinds.ints, number) else {
+        return Err(AllocError);
+    };
+    kinds.lints.extend_from_slice(&[interrupt(3, 0, ALL_APICS, 0), interrupt(1, 0, ALL_APICS, 1)])
 }
 
 /// The platform of a default configuration.
@@ -151,6 +163,8 @@ pub fn default_platform(alloc: Global, number: u8, imcr: bool) -> Result<Platfor
     ensures { IfOk result (λ p. p ≡ platform_of_body imcr (body.Default number)) }
 {
     let mut kinds = no_entries(alloc);
-    put_default(&mut kinds, number)?;
+    let Ok(()) = put_default(&mut kinds, number) else {
+        return Err(AllocError);
+    };
     Ok(platform_with(kinds, imcr, 0xFEE0_0000))
 }

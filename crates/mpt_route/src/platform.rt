@@ -58,7 +58,9 @@ fn listed_platform(alloc: Global, table: &Table, imcr: bool) -> Result<Platform,
     ensures { IfOk result (λ p. p ≡ platform_of_body imcr (body.Listed table.now)) }
 {
     let mut kinds = no_entries(alloc);
-    gather(&mut kinds, table.base.as_slice())?;
+    let Ok(()) = gather(&mut kinds, table.base.as_slice()) else {
+        return Err(AllocError);
+    };
     Ok(platform_with(kinds, imcr, table.local_address))
 }
 

@@ -65,7 +65,9 @@ fn answers_by(
             Ok(row) => settle(&mut lows, row),
             Err(why) => Answer::Unrouted { entry, why },
         };
-        answers.push(answer)?;
+        let Ok(()) = answers.push(answer) else {
+            return Err(AllocError);
+        };
     }
     Ok(answers)
 }
@@ -75,8 +77,12 @@ fn all_answers(alloc: Global, p: &Platform, elcr: u16) -> Result<Vec<Answer>, Al
     requires { length p.now.ints < 2 ^ 32 }
     ensures { IfOk result (λ answers. answers.items ≡ routes_of p.now elcr) }
 {
-    let buses = first_buses(alloc, p.buses.as_slice())?;
-    let ios = routable_ids(alloc, p.ios.as_slice())?;
+    let Ok(buses) = first_buses(alloc, p.buses.as_slice()) else {
+        return Err(AllocError);
+    };
+    let Ok(ios) = routable_ids(alloc, p.ios.as_slice()) else {
+        return Err(AllocError);
+    };
     answers_by(alloc, p, buses.as_slice(), ios.as_slice(), elcr)
 }
 
@@ -100,7 +106,9 @@ fn no_buses(alloc: Global, ids: usize) -> Result<Vec<Option<BusKind>>, AllocErro
 pub fn first_buses(alloc: Global, buses: &[Bus]) -> Result<Vec<Option<BusKind>>, AllocError>
     ensures { IfOk result (λ table. IsTableOf 256 table.items (bus_kind_in buses.now)) }
 {
-    let mut table = no_buses(alloc, 256)?;
+    let Ok(mut table) = no_buses(alloc, 256) else {
+        return Err(AllocError);
+    };
     for b in buses {
         let id = usize::from(b.id);
         if table[id].is_none() {
@@ -115,11 +123,15 @@ fn routable_ids(alloc: Global, ios: &[IoApic]) -> Result<Vec<u8>, AllocError>
     ensures value { IfOk result (λ ids. ids.items ≡ map (λ io. io.id) (take 4 (filter is_enabled ios.now))) }
     ensures few { IfOk result (λ ids. vec_len ids ≤ 4) }
 {
-    ios.iter()
-        .filter(|io| io.is_enabled())
-        .take(ROUTED_IO_APICS)
-        .map(|io| io.id)
-        .collect(alloc)
+    let mut ids = Vec::new(alloc);
+    for io in ios {
+        if io.is_enabled() && ids.len() < ROUTED_IO_APICS {
+            let Ok(()) = ids.push(io.id) else {
+                return Err(AllocError);
+            };
+        }
+    }
+    Ok(ids)
 }
 
 // the index of an id among at most four

@@ -132,10 +132,14 @@ fn bus_counts_of(alloc: Global, entries: &[Base]) -> Result<Vec<u32>, AllocError
     requires { length entries.now ≤ 65535 }
     ensures { IfOk result (λ counts. AreBusCounts entries.now (length entries.now) counts.items) }
 {
-    let mut counts = Vec::with_capacity(alloc, entries.len())?;
+    let Ok(mut counts) = Vec::with_capacity(alloc, entries.len()) else {
+        return Err(AllocError);
+    };
     let mut count = 0;
     for i in 0..entries.len() {
-        counts.push(count)?;
+        let Ok(()) = counts.push(count) else {
+            return Err(AllocError);
+        };
         count = count_with(count, &entries[i]);
     }
     Ok(counts)
@@ -157,7 +161,9 @@ fn sources_of(alloc: Global, entries: &[Base]) -> Result<ByKey, AllocError>
 {
     let mut firsts = BTreeMap::new(alloc);
     for i in 0..entries.len() {
-        note_source(&mut firsts, &entries[i], i as u32)?;
+        let Ok(()) = note_source(&mut firsts, &entries[i], i as u32) else {
+            return Err(AllocError);
+        };
     }
     Ok(firsts)
 }
@@ -178,7 +184,9 @@ fn pins_of(alloc: Global, entries: &[Base]) -> Result<ByKey, AllocError>
 {
     let mut firsts = BTreeMap::new(alloc);
     for i in 0..entries.len() {
-        note_pin(&mut firsts, &entries[i], i as u32)?;
+        let Ok(()) = note_pin(&mut firsts, &entries[i], i as u32) else {
+            return Err(AllocError);
+        };
     }
     Ok(firsts)
 }
@@ -229,7 +237,9 @@ fn second_senses_of(alloc: Global, entries: &[Base], pins: &ByKey) -> Result<ByK
 {
     let mut firsts = BTreeMap::new(alloc);
     for i in 0..entries.len() {
-        note_second_sense(&mut firsts, entries, pins, &entries[i], i as u32)?;
+        let Ok(()) = note_second_sense(&mut firsts, entries, pins, &entries[i], i as u32) else {
+            return Err(AllocError);
+        };
     }
     Ok(firsts)
 }
@@ -239,10 +249,18 @@ pub fn base_index_of(alloc: Global, entries: &[Base]) -> Result<BaseIndex, Alloc
     requires { length entries.now ≤ 65535 }
     ensures { IfOk result (IsBaseIndexOf entries.now) }
 {
-    let bus_counts = bus_counts_of(alloc, entries)?;
-    let sources = sources_of(alloc, entries)?;
-    let pins = pins_of(alloc, entries)?;
-    let second_senses = second_senses_of(alloc, entries, &pins)?;
+    let Ok(bus_counts) = bus_counts_of(alloc, entries) else {
+        return Err(AllocError);
+    };
+    let Ok(sources) = sources_of(alloc, entries) else {
+        return Err(AllocError);
+    };
+    let Ok(pins) = pins_of(alloc, entries) else {
+        return Err(AllocError);
+    };
+    let Ok(second_senses) = second_senses_of(alloc, entries, &pins) else {
+        return Err(AllocError);
+    };
     Ok(BaseIndex {
         processors: processors_of(entries),
         ios: ios_of(entries),

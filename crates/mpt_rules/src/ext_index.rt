@@ -58,9 +58,13 @@ fn ranges_of(alloc: Global, entries: &[Ext]) -> Result<Vec<Option<Range>>, Alloc
     requires { length entries.now ≤ 65535 }
     ensures { IfOk result (λ ranges. AreRanges entries.now (length entries.now) ranges.items) }
 {
-    let mut ranges = Vec::with_capacity(alloc, entries.len())?;
+    let Ok(mut ranges) = Vec::with_capacity(alloc, entries.len()) else {
+        return Err(AllocError);
+    };
     for i in 0..entries.len() {
-        ranges.push(range_of(&entries[i]))?;
+        let Ok(()) = ranges.push(range_of(&entries[i])) else {
+            return Err(AllocError);
+        };
     }
     Ok(ranges)
 }
@@ -122,8 +126,11 @@ pub fn ext_index_of(alloc: Global, entries: &[Ext]) -> Result<ExtIndex, AllocErr
     requires { length entries.now ≤ 65535 }
     ensures { IfOk result (IsExtIndexOf entries.now) }
 {
+    let Ok(ranges) = ranges_of(alloc, entries) else {
+        return Err(AllocError);
+    };
     Ok(ExtIndex {
         parents: parents_of(entries),
-        ranges: ranges_of(alloc, entries)?,
+        ranges,
     })
 }

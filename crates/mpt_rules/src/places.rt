@@ -35,7 +35,9 @@ pub fn note_key(firsts: &mut ByKey, key: (u8, u8, u8), place: u32) -> Result<(),
     ensures { OnOk result (NotesKey (tree.get key_cmp firsts.old) (tree.get key_cmp firsts.new) key place) }
 {
     if firsts.get(&key).is_none() {
-        firsts.insert(key, place)?;
+        let Ok(_) = firsts.insert(key, place) else {
+            return Err(AllocError);
+        };
     }
     Ok(())
 }

@@ -15,7 +15,7 @@ returns-in_default-clause-rest c = (run_stop (c.args.limit - c.loop-i._i) (c.arg
 
 pub loop-i-preserved : goal.loop-i-preserved
 loop-i-preserved c =
-    rw c.in_ok-push.ensures.items
+    rw c.in-Ok.ensures.items
     (run_more (c.args.limit - c.loop-i._i) (c.args.limit - (c.loop-i._i + 1)) c.loop-i.out.items c.in-Some.byte c.loop-i.rest.now c.in-Some.after.now _ _ (omega arith) c.loop-i.invariant c.in-Some.ensures)
 
 pub returns-clause-bytes : goal.returns-clause-bytes

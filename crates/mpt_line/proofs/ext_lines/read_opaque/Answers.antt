@@ -13,11 +13,11 @@ is_low kind h = grind (arith, nat_tests)
 
 pub returns : goal.returns
 unfolding opaque_in
-returns c = rw (c.new.ensures, c.in-Some.ensures, c.in-Some-read_part.ensures, (rw c.in-Some-2.is at c.in_ok-bytes.ensures), c.in-Some-read_end.ensures) (passes (is_high c.in-Some.kind c.if-kind-lt131.false))
+returns c = rw (c.new.ensures, c.in-Some.ensures, c.in-Some-read_part.ensures, (rw c.in-Some-found.is at c.in-Ok.ensures), c.in-Some-read_end.ensures) (passes (is_high c.in-Some.kind c.if-kind-lt131.false))
 
 pub returns-then-kind-lt131 : goal.returns-then-kind-lt131
 unfolding opaque_in
-returns-then-kind-lt131 c = rw (c.in-Some.ensures, c.in-Some-read_part.ensures, (rw c.in-Some-2.is at c.in_ok-bytes.ensures), c.in-Some-read_end.ensures) (fails _ (is_low c.in-Some.kind c.if-kind-lt131.true))
+returns-then-kind-lt131 c = rw (c.in-Some.ensures, c.in-Some-read_part.ensures, (rw c.in-Some-found.is at c.in-Ok.ensures), c.in-Some-read_end.ensures) (fails _ (is_low c.in-Some.kind c.if-kind-lt131.true))
 
 pub returns-in_default : goal.returns-in_default
 unfolding opaque_in
@@ -27,10 +27,10 @@ pub returns-in_default-read_part : goal.returns-in_default-read_part
 unfolding opaque_in
 returns-in_default-read_part c = rw (c.in-Some.ensures, c.in_default-read_part.ensures)
 
-pub returns-in_default-2 : goal.returns-in_default-2
+pub returns-in_default-found : goal.returns-in_default-found
 unfolding opaque_in
-returns-in_default-2 c = rw (c.in-Some.ensures, c.in-Some-read_part.ensures, (rw c.in_default-2.is at c.in_ok-bytes.ensures))
+returns-in_default-found c = rw (c.in-Some.ensures, c.in-Some-read_part.ensures, (rw c.in_default-found.is at c.in-Ok.ensures))
 
 pub returns-in_default-read_end : goal.returns-in_default-read_end
 unfolding opaque_in
-returns-in_default-read_end c = rw (c.in-Some.ensures, c.in-Some-read_part.ensures, (rw c.in-Some-2.is at c.in_ok-bytes.ensures), c.in_default-read_end.ensures)
+returns-in_default-read_end c = rw (c.in-Some.ensures, c.in-Some-read_part.ensures, (rw c.in-Some-found.is at c.in-Ok.ensures), c.in_default-read_end.ensures)

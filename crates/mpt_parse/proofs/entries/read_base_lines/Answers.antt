@@ -8,7 +8,7 @@ loop-entry-smaller c = shorter (base_line c.in-Some.entry) c.loop-entry.rest.now
 
 pub loop-entry-preserved : goal.loop-entry-preserved
 loop-entry-preserved c =
-    rw c.in_ok-push.ensures.items (
+    rw c.in-Ok.ensures.items (
       more_lines base_line c.loop-entry.entries.items c.in-Some.entry c.args.text.now c.loop-entry.rest.now c.in-Some.after.now c.loop-entry.invariant.0 c.in-Some.ensures.some.whole,
       more_values IsBaseValue c.loop-entry.entries.items c.in-Some.entry c.loop-entry.invariant.1 c.in-Some.ensures.some.right,
     )

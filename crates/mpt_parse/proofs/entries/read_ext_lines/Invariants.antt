@@ -4,8 +4,8 @@ use Rattle.mpt_listing.specs.Listing.{ext_line}
 use Rattle.mpt_line.specs.Lines.{IsRightExt}
 use Rattle.mpt_parse.proofs.entries.read_ext_lines.Given as goal
 
-abbrev pub invariant-loop-entries : goal.invariant-loop-entries
-invariant-loop-entries l = (l.text ≡ flat_map ext_line l.entries.items ++ l.rest) × AllByRecursion IsRightExt l.entries.items
+abbrev pub invariant-loop-line : goal.invariant-loop-line
+invariant-loop-line l = (l.text ≡ flat_map ext_line l.entries.items ++ l.rest) × AllByRecursion IsRightExt l.entries.items
 
-abbrev pub decreases-loop-entries : goal.decreases-loop-entries
-decreases-loop-entries l = length l.rest
+abbrev pub decreases-loop-line : goal.decreases-loop-line
+decreases-loop-line l = length l.rest

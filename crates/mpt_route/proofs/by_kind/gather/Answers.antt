@@ -14,7 +14,7 @@ unfolding d
 loop-entry-preserved c =
     let es = c.args.entries.now in
     let i = c.loop-entry.entry-index in
-    subst (λ (xs : List Base). AreByKind xs c.gather_entry.new.kinds) (sym (take_more es i d (omega (arith, c.loop-entry-test.true)))) (c.in_ok-gather_entry.ensures (take i es) c.loop-entry.invariant)
+    subst (λ (xs : List Base). AreByKind xs c.gather_entry.new.kinds) (sym (take_more es i d (omega (arith, c.loop-entry-test.true)))) (c.in-Ok.ensures (take i es) c.loop-entry.invariant)
 
 pub returns : goal.returns
 returns c =

@@ -45,20 +45,20 @@ loop-e-preserved c =
             found = found_more p c.args.elcr es i d old c.push.new.self.items c.match-own_answer.answer inside c.loop-e.invariant.found
                 (is ∙ ap (λ (o : Option ℕ). answer_on o row) (c.loop-e.invariant.lows row.io row.pin w.in-Ok.ensures.place w.in-Ok.ensures.pin)
                 ∙ sym (settled (bus_kind_in p.buses e.bus) (io_place_in p.ios e.dest) (high_word_of p.processors) c.args.elcr old e row (sym own ∙ w.in-Ok.is)))
-                c.in_ok-push.ensures.items;
-            count = counted c.loop-e.answers.items c.push.new.self.items c.match-own_answer.answer i c.loop-e.invariant.count c.in_ok-push.ensures.items;
+                c.in-Ok-push.ensures.items;
+            count = counted c.loop-e.answers.items c.push.new.self.items c.match-own_answer.answer i c.loop-e.invariant.count c.in-Ok-push.ensures.items;
             pins = subst (λ (ls : List (List (Option ℕ))). HasPins ls) (sym w.lows-is) w.settle-answer.ensures.pins;
             lows = λ io pin i p. ap (λ (ls : List (List (Option ℕ))). low_at ls io pin) w.lows-is
-                ∙ lows_after c.loop-e.lows w.settle-answer.new.lows old c.push.new.self.items c.match-own_answer.answer row w.in-Ok.ensures.place w.in-Ok.ensures.pin c.loop-e.invariant.lows w.settle-answer.ensures.noted is c.in_ok-push.ensures.items io pin i p;
+                ∙ lows_after c.loop-e.lows w.settle-answer.new.lows old c.push.new.self.items c.match-own_answer.answer row w.in-Ok.ensures.place w.in-Ok.ensures.pin c.loop-e.invariant.lows w.settle-answer.ensures.noted is c.in-Ok-push.ensures.items io pin i p;
           }
       | in-Err w ↦ record {
         found = found_more p c.args.elcr es i d old c.push.new.self.items c.match-own_answer.answer inside c.loop-e.invariant.found
             (w.answer-is ∙ ap (λ (k : ℕ). answer.Unrouted k w.in-Err.why) n
             ∙ sym (refused (bus_kind_in p.buses e.bus) (io_place_in p.ios e.dest) (high_word_of p.processors) c.args.elcr old e w.in-Err.why (sym own ∙ w.in-Err.is)))
-            c.in_ok-push.ensures.items;
-        count = counted c.loop-e.answers.items c.push.new.self.items c.match-own_answer.answer i c.loop-e.invariant.count c.in_ok-push.ensures.items;
+            c.in-Ok-push.ensures.items;
+        count = counted c.loop-e.answers.items c.push.new.self.items c.match-own_answer.answer i c.loop-e.invariant.count c.in-Ok-push.ensures.items;
         pins = subst (λ (ls : List (List (Option ℕ))). HasPins ls) (sym w.lows-is) c.loop-e.invariant.pins;
         lows = λ io pin i p. ap (λ (ls : List (List (Option ℕ))). low_at ls io pin) w.lows-is
-            ∙ lows_stay c.loop-e.lows old c.push.new.self.items c.match-own_answer.answer c.len-entry.result w.in-Err.why c.loop-e.invariant.lows w.answer-is c.in_ok-push.ensures.items io pin i p;
+            ∙ lows_stay c.loop-e.lows old c.push.new.self.items c.match-own_answer.answer c.len-entry.result w.in-Err.why c.loop-e.invariant.lows w.answer-is c.in-Ok-push.ensures.items io pin i p;
       }
     ]

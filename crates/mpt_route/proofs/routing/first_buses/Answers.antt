@@ -11,7 +11,7 @@ d : Bus
 d = record { id = 0; name = [] }
 
 pub loop-b-init : goal.loop-b-init
-loop-b-init c = no_bus c.in_ok-table.table.items c.in_ok-table.ensures
+loop-b-init c = no_bus c.in-Ok.table.items c.in-Ok.ensures
 
 pub loop-b-preserved : goal.loop-b-preserved
 unfolding d

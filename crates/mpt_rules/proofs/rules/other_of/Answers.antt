@@ -4,6 +4,7 @@ use Rattle.std.proofs.lemmas.Option.{slice_get_read, slice_get-get_or}
 use Rattle.mpt_rules.specs.declared.rule.Rule.TheVariants as rule
 use Rattle.mpt_rules.specs.Places.{IsOther}
 use Rattle.mpt_rules.specs.Rules.{BreaksBaseRule, BreaksExtRule, BreaksRule, IsPlaceOf}
+use Rattle.mpt_rules.specs.Index.{IsBaseIndexOf, IsExtIndexOf}
 use Rattle.mpt_rules.proofs.PlaceLemmas.{alone_on_table, entry_other, no_entry}
 use Rattle.mpt_rules.proofs.rules.other_of.Goals as goal
 
@@ -35,3 +36,37 @@ returns-in-Ext c =
     (entry_other (λ f j. BreaksExtRule t.base t.ext c.in-Ext.rule f i j) t.ext i e c.other_of-in-Ext.result at
     (subst (λ bs. IsOther (BreaksExtRule bs t.ext c.in-Ext.rule e i) c.other_of-in-Ext.result) c.as_slice.ensures
     (subst (λ xs. IsOther (BreaksExtRule c.as_slice.result.now xs c.in-Ext.rule e i) c.other_of-in-Ext.result) c.as_slice-entries-in-Ext.ensures c.other_of-in-Ext.ensures)))
+
+pub bounds-entries-i : goal.bounds-entries-i
+bounds-entries-i c =
+    let t = c.args.table.now in
+    let inside : IsPlaceOf t (rule.Base c.in-Base.rule) c.args.i = subst (λ r. IsPlaceOf t r c.args.i) c.in-Base.is c.requires.place in
+    omega (arith, inside, ap length c.as_slice-entries.ensures)
+
+pub other_of-requires : goal.other_of-requires
+other_of-requires c =
+    let es = c.as_slice-entries.result.now in
+    let inside = bounds-entries-i c in
+    record {
+      indexed = subst (λ xs. IsBaseIndexOf xs c.args.bases.now) (sym c.as_slice-entries.ensures) c.requires.bases;
+      at = slice_get-get_or es c.args.i no_entry inside;
+      inside = inside;
+    }
+
+pub bounds-entries-i-in-Ext : goal.bounds-entries-i-in-Ext
+bounds-entries-i-in-Ext c =
+    let t = c.args.table.now in
+    let inside : IsPlaceOf t (rule.Ext c.in-Ext.rule) c.args.i = subst (λ r. IsPlaceOf t r c.args.i) c.in-Ext.is c.requires.place in
+    omega (arith, inside, ap length c.as_slice-entries-in-Ext.ensures)
+
+pub other_of-requires-in-Ext : goal.other_of-requires-in-Ext
+other_of-requires-in-Ext c =
+    let es = c.as_slice-entries-in-Ext.result.now in
+    let e = c.index-entries-i.result in
+    let t = c.args.table.now in
+    let place : IsPlaceOf t (rule.Ext c.in-Ext.rule) c.args.i = subst (λ r. IsPlaceOf t r c.args.i) c.in-Ext.is c.requires.place in
+    record {
+      bases = subst (λ xs. IsBaseIndexOf xs c.args.bases.now) (sym c.as_slice.ensures) c.requires.bases;
+      exts = subst (λ xs. IsExtIndexOf xs c.args.exts.now) (sym c.as_slice-entries-in-Ext.ensures) c.requires.exts;
+      entry = slice_get_read es _ c.args.i e refl (omega (arith, place, ap length c.as_slice-entries-in-Ext.ensures)) c.index-entries-i.is;
+    }
