@@ -1,6 +1,7 @@
 //! Boards of any entries: an image that ends with the table, whose lengths and checksums are right.
 
-use crate::harness::{SMALL_POINTER, WORD, image_with, put};
+use crate::harness::{image_with, put};
+use mptab_cases::images::{SMALL_POINTER, WORD};
 use std::alloc::Global;
 use std::test::Fail;
 

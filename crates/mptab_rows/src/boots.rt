@@ -16,5 +16,4 @@ mod pulses;
 mod replays;
 mod scripts;
 mod tables;
-mod three_pulses;
 mod worked;

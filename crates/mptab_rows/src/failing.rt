@@ -2,11 +2,11 @@
 
 use crate::board::{HEAD, board_with};
 use crate::harness::{
-    Answer, NAME, POINTER, Piece, ROOM, SMALL_POINTER, WORD, answer_of, answer_over, image_with,
-    same, shelf_with, words_of,
+    Answer, NAME, ROOM, answer_of, answer_over, image_with, same, shelf_with, words_of,
 };
 use mpt_base::{MemShelf, MemSink};
 use mptab_calls::run;
+use mptab_cases::images::{POINTER, Piece, SMALL_POINTER, WORD};
 use std::alloc::Global;
 use std::sync::Wait;
 use std::test::Fail;

@@ -2,6 +2,7 @@
 
 use mpt_base::{MemShelf, MemSink};
 use mptab_calls::run_still;
+use mptab_cases::images::{Piece, Row};
 use std::alloc::Global;
 use std::fmt::Debug;
 use std::process::Abort;
@@ -13,42 +14,10 @@ pub(crate) const NAME: &str = "board.img";
 /// The room of a sink: an image of 1 MiB and more.
 pub(crate) const ROOM: usize = 0x180000;
 
-/// What lies at a place in an image. What passes the image's end is left out.
-pub(crate) enum Piece {
-    /// The table of the board with one processor.
-    Table(usize),
-    /// So many bytes, 16 at most, as one number: the first byte is its highest.
-    Bytes(usize, usize, u128),
-}
-
-/// The pointer of the board with one processor, at F0000h.
-pub(crate) const POINTER: Piece = Piece::Bytes(0xF0000, 16, 0x5F4D505F_10000F00_01048100_00000000);
-
-/// The word that names 500h as the start of the EBDA.
-pub(crate) const WORD: Piece = Piece::Bytes(0x40E, 2, 0x5000);
-
-/// The pointer of the same board at 500h, to a table at 510h.
-pub(crate) const SMALL_POINTER: Piece = Piece::Bytes(
-    0x500,
-    16,
-    0x5F4D505F_10050000_01048B00_00000000,
-);
-
 /// The table of the board with one processor: 64 bytes, whose sum is 0.
 const TABLE: &[u8] = b"PCMP\x40\x00\x04\x99MPTAB   BOARD       \
 \x00\x00\x00\x00\x00\x00\x01\x00\x00\x00\xE0\xFE\x00\x00\x00\x00\
 \x00\x00\x10\x03\x20\x05\x00\x00\xBF\x01\x00\x00\x00\x00\x00\x00\x00\x00\x00\x00";
-
-/// One image, and what `show` answers to it.
-pub(crate) struct Row {
-    /// Why the answer is what it is.
-    pub(crate) name: &'static str,
-    /// The image's length; it is zero but for the pieces, of which a later one stands over an earlier.
-    pub(crate) size: usize,
-    pub(crate) pieces: &'static [Piece],
-    pub(crate) status: u8,
-    pub(crate) text: &'static str,
-}
 
 /// A status, and what was written.
 #[derive(Drop)]

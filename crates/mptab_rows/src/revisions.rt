@@ -2,9 +2,9 @@
 //! neither.
 
 use crate::harness::{
-    Answer, POINTER, Piece, Row, answers, are_shown, built, image_with, is_shown_after, of_image,
-    same,
+    Answer, answers, are_shown, built, image_with, is_shown_after, of_image, same,
 };
+use mptab_cases::images::{POINTER, Piece, Row};
 use std::alloc::Global;
 use std::test::Fail;
 

@@ -1,6 +1,7 @@
 //! Images read by windows: what is asked of them, and tables at the ends of what is searched.
 
-use crate::harness::{Answer, NAME, POINTER, Piece, answer_of, image_with, same, shelf_with};
+use crate::harness::{Answer, NAME, answer_of, image_with, same, shelf_with};
+use mptab_cases::images::{POINTER, Piece};
 use std::alloc::Global;
 use std::test::Fail;
 

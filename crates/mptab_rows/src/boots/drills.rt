@@ -1,8 +1,9 @@
 //! Drills: the summaries of three, and words that are none.
 
-use crate::boots::harness::{Answer, Case, USAGE, answer_of};
+use crate::boots::harness::{Answer, answer_of};
 use crate::harness::same;
 use mpt_base::MemShelf;
+use mptab_cases::boots::{Case, USAGE};
 use std::alloc::Global;
 use std::sync::Wait;
 use std::test::Fail;

@@ -1,134 +1,14 @@
 //! Words that are no form, files that aren't there, and calls of shelf and sink that fail one by one.
 
-use crate::boots::harness::{
-    Answer, BOTH, Case, IMAGE, NOTHING, ONE, REPORT, SCRIPT, USAGE, answer_of, answer_to,
-    script_of, shelf_of,
-};
+use crate::boots::harness::{Answer, answer_of, answer_to, script_of, shelf_of};
 use crate::harness::same;
 use mpt_base::MemShelf;
+use mptab_cases::boots::failing::WORDS;
+use mptab_cases::boots::{BOTH, Case, IMAGE, NOTHING, ONE, REPORT, SCRIPT};
 use std::alloc::Global;
 use std::sync::Wait;
 use std::test::Fail;
 use std::thread::Threads;
-
-/// An image, a script, and an image whose tables are refused are there.
-const WORDS: &[Case] = &[
-    Case {
-        words: &["trace"],
-        status: 2,
-        text: USAGE,
-    },
-    Case {
-        words: &["trace", IMAGE],
-        status: 2,
-        text: USAGE,
-    },
-    Case {
-        words: &["trace", IMAGE, SCRIPT, SCRIPT],
-        status: 2,
-        text: USAGE,
-    },
-    Case {
-        words: &["Trace", IMAGE, SCRIPT],
-        status: 2,
-        text: USAGE,
-    },
-    Case {
-        words: &["boot"],
-        status: 2,
-        text: USAGE,
-    },
-    Case {
-        words: &["boot", SCRIPT],
-        status: 2,
-        text: USAGE,
-    },
-    Case {
-        words: &["boot", IMAGE, SCRIPT, SCRIPT],
-        status: 2,
-        text: USAGE,
-    },
-    Case {
-        words: &["boot ", IMAGE, SCRIPT],
-        status: 2,
-        text: USAGE,
-    },
-    Case {
-        words: &["replay", IMAGE, SCRIPT],
-        status: 2,
-        text: USAGE,
-    },
-    Case {
-        words: &["replay", IMAGE, SCRIPT, SCRIPT, SCRIPT],
-        status: 2,
-        text: USAGE,
-    },
-    Case {
-        words: &["replay", IMAGE, SCRIPT, SCRIPT],
-        status: 8,
-        text: "mptab: report line 1 Form\n",
-    },
-    Case {
-        words: &["replay", IMAGE, IMAGE, "x"],
-        status: 8,
-        text: "mptab: script not toml\n",
-    },
-    Case {
-        words: &["trace", IMAGE, "x"],
-        status: 3,
-        text: "mptab: no file x\n",
-    },
-    Case {
-        words: &["boot", IMAGE, ""],
-        status: 3,
-        text: "mptab: no file \n",
-    },
-    Case {
-        words: &["trace", "x", SCRIPT],
-        status: 3,
-        text: "mptab: no file x\n",
-    },
-    Case {
-        words: &["boot", "x", "y"],
-        status: 3,
-        text: "mptab: no file x\n",
-    },
-    Case {
-        words: &["trace", SCRIPT, "x"],
-        status: 6,
-        text: "mptab: no floating pointer\n",
-    },
-    Case {
-        words: &["boot", SCRIPT, IMAGE],
-        status: 6,
-        text: "mptab: no floating pointer\n",
-    },
-    Case {
-        words: &["trace", "bad", "x"],
-        status: 7,
-        text: "mptab: fault 2 BadDefault at 0000040B\n",
-    },
-    Case {
-        words: &["boot", "bad", SCRIPT],
-        status: 7,
-        text: "mptab: fault 2 BadDefault at 0000040B\n",
-    },
-    Case {
-        words: &["trace", IMAGE, IMAGE],
-        status: 8,
-        text: "mptab: script not toml\n",
-    },
-    Case {
-        words: &["trace", IMAGE, SCRIPT],
-        status: 0,
-        text: NOTHING,
-    },
-    Case {
-        words: &["boot", IMAGE, SCRIPT],
-        status: 0,
-        text: NOTHING,
-    },
-];
 
 /// A floating pointer at 400h whose last bytes are the word that names 400h, with default configuration 8.
 const BAD_POINTER: &[u8] = b"_MP_\x00\x00\x00\x00\x01\x04\x58\x08\x00\x00\x40\x00";

@@ -1,12 +1,13 @@
 //! Boots by threads through a gate: each agent has a thread of its own, and what is printed is the history of
 //! the threads. It holds what no clause says.
 
-use crate::boots::harness::{Answer, IMAGE, SCRIPT, shelf_of, sink_of};
-use crate::boots::three_pulses::{ONE_PIN, THREE_PULSES_SCRIPT};
+use crate::boots::harness::{Answer, shelf_of, sink_of};
 use crate::harness::{same, words_of};
 use mpb_spec::Agent;
 use mpt_base::MemShelf;
 use mptab_calls::{Gate, run_with};
+use mptab_cases::boots::three_pulses::{ONE_PIN, THREE_PULSES_SCRIPT};
+use mptab_cases::boots::{IMAGE, SCRIPT};
 use std::alloc::Global;
 use std::sync::Wait;
 use std::sync::atomic::{AtomicU64, Ordering};

@@ -1,61 +1,18 @@
 //! What every theme stands on: a row, the image of its tables, and the answer of the top call.
 
-use crate::boots::tables::{Entry, Tables, listing_of};
+use crate::boots::tables::listing_of;
 use crate::harness::{answer_of as still_answer_of, same, words_of};
 use mpt_base::{MemShelf, MemSink};
 use mptab_calls::run;
+use mptab_cases::boots::{IMAGE, REPORT, Row, SCRIPT, Tables};
 use std::alloc::Global;
 use std::process::Abort;
 use std::sync::Wait;
 use std::test::Fail;
 use std::thread::Threads;
 
-/// The name under which an image lies on the shelf.
-pub(crate) const IMAGE: &str = "board.img";
-
-/// The name under which a script lies on the shelf.
-pub(crate) const SCRIPT: &str = "boot.toml";
-
-/// The name under which a report lies on the shelf.
-pub(crate) const REPORT: &str = "report.txt";
-
-/// Both commands.
-pub(crate) const BOTH: &[&str] = &["trace", "boot"];
-
-/// One processor.
-pub(crate) const ONE: Tables = Tables::Listed(&[Entry::Boot(0)], "");
-
-/// What is answered to words that are no form.
-pub(crate) const USAGE: &str = "mptab: usage\n";
-
-/// The report of one processor without words.
-pub(crate) const NOTHING: &str = "mpboot 1
-entries 0
-state imcr none
-state cpu 00 first tpr 00 irr - isr - tmr -
-end
-";
-
 /// The room of a sink: an image of 1 MiB, more than any report of these rows.
 const ROOM: usize = 0x100000;
-
-/// Tables, a script, and what a command answers to them.
-pub(crate) struct Row {
-    /// Why the answer is what it is.
-    pub(crate) name: &'static str,
-    pub(crate) tables: Tables,
-    pub(crate) script: &'static str,
-    pub(crate) status: u8,
-    /// The whole text; or, where it doesn't end with the line `end`, the first lines of a report.
-    pub(crate) text: &'static str,
-}
-
-/// Words, and the status and text that answer them.
-pub(crate) struct Case {
-    pub(crate) words: &'static [&'static str],
-    pub(crate) status: u8,
-    pub(crate) text: &'static str,
-}
 
 /// A status, and what was written.
 #[derive(Drop)]

@@ -1,9 +1,10 @@
 //! Reports of three pulses on one pin, judged: the run itself, what is wrong of others, lines that are no report,
 //! and the report of a boot.
 
-use crate::boots::harness::{Answer, IMAGE, REPORT, SCRIPT, answer_of, boots_legally, shelf_of};
-use crate::boots::three_pulses::{ONE_PIN, THREE_PULSES, THREE_PULSES_SCRIPT};
+use crate::boots::harness::{Answer, answer_of, boots_legally, shelf_of};
 use crate::harness::same;
+use mptab_cases::boots::three_pulses::{ONE_PIN, THREE_PULSES, THREE_PULSES_SCRIPT};
+use mptab_cases::boots::{IMAGE, REPORT, SCRIPT};
 use std::alloc::Global;
 use std::sync::Wait;
 use std::test::Fail;

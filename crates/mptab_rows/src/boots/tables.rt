@@ -1,33 +1,8 @@
 //! Tables as rows say them, and their listings.
 
+use mptab_cases::boots::{Entry, Tables};
 use std::alloc::Global;
 use std::test::Fail;
-
-/// The tables of a row.
-pub(crate) enum Tables {
-    /// Those of a listing.
-    Text(&'static str),
-    /// Entries, and lines of further base entries, behind a floating pointer with IMCRP clear.
-    Listed(&'static [Entry], &'static str),
-}
-
-/// Base entries.
-pub(crate) enum Entry {
-    /// An enabled processor of version 10h with the boot bit.
-    Boot(u8),
-    /// An enabled processor of version 10h.
-    Cpu(u8),
-    /// Such processors, from one id to another.
-    Cpus(u8, u8),
-    /// A disabled processor.
-    CpuOff(u8),
-    /// An enabled I/O APIC.
-    Io(u8),
-    /// Such I/O APICs, from one id to another.
-    Ios(u8, u8),
-    /// A disabled I/O APIC.
-    IoOff(u8),
-}
 
 /// The lines of an entry: how each begins, the least and the greatest id, how each ends.
 type Lines = (&'static str, u8, u8, &'static str);
