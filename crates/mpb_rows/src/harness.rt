@@ -5,5 +5,5 @@ use std::process::Abort;
 
 /// Asserts that a call gave what was wanted.
 pub(crate) fn same<T: PartialEq + Debug + Drop>(rt: &impl Abort, name: &str, got: T, want: T) {
-    assert_eq!(rt; got, want, "{name}");
+    assert_eq!(rt; (name, got), (name, want));
 }

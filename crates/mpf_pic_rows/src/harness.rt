@@ -25,8 +25,8 @@ pub struct Row {
     pub name: &'static str,
     pub imcr: bool,
     pub wired: Wired,
-    pub calls: &'static str,
-    pub text: &'static str,
+    pub calls: &'static [u8],
+    pub text: &'static [u8],
 }
 
 /// A wiring without calls, and its way.
@@ -116,8 +116,8 @@ pub fn has_text(rt: &impl Abort, alloc: Global, row: &Row) {
         panic!(rt; "a long row");
     }
     let w = wiring(rt, alloc, row.imcr, row.wired);
-    let text = played(rt, alloc, w, row.calls.as_bytes());
-    let right = text.as_slice() == row.text.as_bytes();
+    let text = played(rt, alloc, w, row.calls);
+    let right = text.as_slice() == row.text;
     assert_eq!(rt; right, true, "{}", row.name);
 }
 

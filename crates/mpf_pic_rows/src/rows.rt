@@ -52,7 +52,7 @@ const LINT_ALONE: Wired = Wired::By(LINT, NONE);
 const PIN: Wired = Wired::By(IntEntry { kind: 1, ..LINT }, ALL);
 
 /// Both controllers are initialised, lines 1 and 12 rise and are acknowledged as the priorities let them.
-const CALLS: &str = "out 20 11
+const CALLS: &[u8] = b"out 20 11
 out 21 20
 out 21 04
 out 21 01
@@ -71,7 +71,7 @@ in 20
 ";
 
 /// The same behind a write of 00h to the interrupt mode register.
-const CALLS_IN_PIC_MODE: &str = "out 22 70
+const CALLS_IN_PIC_MODE: &[u8] = b"out 22 70
 out 23 00
 out 20 11
 out 21 20
@@ -97,41 +97,41 @@ const ROWS: &[Row] = &[
         imcr: false,
         wired: BOTH,
         calls: CALLS,
-        text: "ack 21 lint\nack none\nack 2C lint\nin 20 = 04\nend\n",
+        text: b"ack 21 lint\nack none\nack 2C lint\nin 20 = 04\nend\n",
     },
     Row {
         name: "a pin",
         imcr: false,
         wired: PIN,
         calls: CALLS,
-        text: "ack 21 io 0 4\nack none\nack 2C io 0 4\nin 20 = 04\nend\n",
+        text: b"ack 21 io 0 4\nack none\nack 2C io 0 4\nin 20 = 04\nend\n",
     },
     Row {
         name: "no way",
         imcr: false,
         wired: Wired::Nothing,
         calls: CALLS,
-        text: "ack none\nack none\nack none\nin 20 = 00\nend\n",
+        text: b"ack none\nack none\nack none\nin 20 = 00\nend\n",
     },
     Row {
         name: "PIC mode",
         imcr: true,
         wired: BOTH,
         calls: CALLS_IN_PIC_MODE,
-        text: "ack 21 direct\nack none\nack 2C direct\nin 20 = 04\nend\n",
+        text: b"ack 21 direct\nack none\nack 2C direct\nin 20 = 04\nend\n",
     },
     Row {
         name: "no interrupt mode register",
         imcr: false,
         wired: BOTH,
         calls: CALLS_IN_PIC_MODE,
-        text: "ack 21 lint\nack none\nack 2C lint\nin 20 = 04\nend\n",
+        text: b"ack 21 lint\nack none\nack 2C lint\nin 20 = 04\nend\n",
     },
     Row {
         name: "the register is written where it is selected",
         imcr: true,
         wired: PIN,
-        calls: "out 20 10
+        calls: b"out 20 10
 out 21 40
 out 21 04
 irq 3 up
@@ -154,7 +154,7 @@ out 23 01
 out 23 02
 ack
 ",
-        text: "ack 43 direct\nack 44 direct\nack 45 direct\nack 46 io 0 4\nend\n",
+        text: b"ack 43 direct\nack 44 direct\nack 45 direct\nack 46 io 0 4\nend\n",
     },
 ];
 

@@ -8,7 +8,7 @@ const ROWS: &[Row] = &[
         name: "each operation word in each stage of the master",
         imcr: true,
         wired: Wired::Nothing,
-        calls: "irq 3 up
+        calls: b"irq 3 up
 out 21 5A
 out 20 00
 out 20 20
@@ -146,7 +146,7 @@ in 21
 out 21 FF
 ack
 ",
-        text: "in 20 = 00
+        text: b"in 20 = 00
 in 20 = 00
 in 20 = 08
 in 20 = 08
@@ -191,7 +191,7 @@ end
         name: "each operation word in each stage of the slave",
         imcr: true,
         wired: Wired::Nothing,
-        calls: "out 20 10
+        calls: b"out 20 10
 out 21 20
 out 21 04
 irq 11 up
@@ -340,7 +340,7 @@ in 20
 out A1 FF
 ack
 ",
-        text: "in A0 = 00
+        text: b"in A0 = 00
 in A0 = 00
 in A0 = 08
 in A0 = 08
@@ -392,7 +392,7 @@ end
         name: "the first word without a fourth in each stage of the master",
         imcr: true,
         wired: Wired::Nothing,
-        calls: "out 20 10
+        calls: b"out 20 10
 out 21 08
 out 21 04
 out 21 FE
@@ -465,7 +465,7 @@ irq 0 up
 ack
 out 20 20
 ",
-        text: "in 21 = FE
+        text: b"in 21 = FE
 ack 08 direct
 in 21 = FE
 ack 10 direct
@@ -486,7 +486,7 @@ end
         name: "the first word with a fourth in each stage of the master",
         imcr: true,
         wired: Wired::Nothing,
-        calls: "out 20 11
+        calls: b"out 20 11
 out 21 08
 out 21 04
 out 21 FE
@@ -559,7 +559,7 @@ irq 0 up
 ack
 out 20 20
 ",
-        text: "in 21 = 00
+        text: b"in 21 = 00
 ack 08 direct
 in 21 = 00
 ack 10 direct
@@ -580,7 +580,7 @@ end
         name: "the first word without a fourth in each stage of the slave",
         imcr: true,
         wired: Wired::Nothing,
-        calls: "out 20 10
+        calls: b"out 20 10
 out 21 20
 out 21 04
 out A0 10
@@ -663,7 +663,7 @@ ack
 out A0 20
 out 20 20
 ",
-        text: "in A1 = FE
+        text: b"in A1 = FE
 ack 08 direct
 in A1 = FE
 ack 10 direct
@@ -684,7 +684,7 @@ end
         name: "the first word with a fourth in each stage of the slave",
         imcr: true,
         wired: Wired::Nothing,
-        calls: "out 20 10
+        calls: b"out 20 10
 out 21 20
 out 21 04
 out A0 11
@@ -767,7 +767,7 @@ ack
 out A0 20
 out 20 20
 ",
-        text: "in A1 = 00
+        text: b"in A1 = 00
 ack 08 direct
 in A1 = 00
 ack 10 direct
@@ -788,7 +788,7 @@ end
         name: "other operation words of the slave",
         imcr: true,
         wired: Wired::Nothing,
-        calls: "out 20 10
+        calls: b"out 20 10
 out 21 20
 out 21 04
 out A0 10
@@ -823,7 +823,7 @@ out 20 62
 in 20
 ack
 ",
-        text: "ack 2B direct
+        text: b"ack 2B direct
 in A0 = 08
 in A0 = 08
 in A0 = 20

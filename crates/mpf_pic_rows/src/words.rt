@@ -8,7 +8,7 @@ const ROWS: &[Row] = &[
         name: "the master's words in each stage",
         imcr: true,
         wired: Wired::Nothing,
-        calls: "irq 3 up
+        calls: b"irq 3 up
 in 20
 out 20 0B
 in 20
@@ -62,7 +62,7 @@ in 20
 out 20 63
 in 20
 ",
-        text: "in 20 = 08
+        text: b"in 20 = 08
 in 20 = 00
 in 20 = 00
 in 20 = 08
@@ -95,7 +95,7 @@ end
         name: "the slave's words in each stage",
         imcr: true,
         wired: Wired::Nothing,
-        calls: "out A1 C3
+        calls: b"out A1 C3
 in A1
 out A0 0B
 in A0
@@ -150,7 +150,7 @@ out A0 10
 out 20 0B
 in 20
 ",
-        text: "in A1 = C3
+        text: b"in A1 = C3
 in A0 = 00
 in A1 = 00
 in A0 = 02
@@ -186,7 +186,7 @@ end
         name: "the first word starts again in each stage",
         imcr: true,
         wired: Wired::Nothing,
-        calls: "out 20 11
+        calls: b"out 20 11
 out 20 10
 out 21 20
 out 20 11
@@ -215,7 +215,7 @@ irq 1 down
 irq 1 up
 ack
 ",
-        text: "ack 40 direct
+        text: b"ack 40 direct
 in 20 = 01
 in 21 = F0
 in 20 = 00
@@ -230,7 +230,7 @@ end
         name: "other operation words",
         imcr: true,
         wired: Wired::Nothing,
-        calls: "out 20 10
+        calls: b"out 20 10
 out 21 20
 out 21 04
 irq 3 up
@@ -254,7 +254,7 @@ out 20 27
 in 20
 ack
 ",
-        text: "ack 23 direct
+        text: b"ack 23 direct
 in 20 = 08
 in 20 = 08
 in 20 = 20
@@ -268,7 +268,7 @@ end
         name: "the cascade is masked, then in service",
         imcr: true,
         wired: Wired::Nothing,
-        calls: "out 20 11
+        calls: b"out 20 11
 out A0 11
 out 21 20
 out A1 28
@@ -301,7 +301,7 @@ in 20
 out 20 20
 ack
 ",
-        text: "in 20 = 04
+        text: b"in 20 = 04
 ack none
 ack 2C direct
 in 20 = 04
@@ -320,7 +320,7 @@ end
         name: "the slave's while the master serves a lower one",
         imcr: true,
         wired: Wired::Nothing,
-        calls: "out 20 11
+        calls: b"out 20 11
 out A0 11
 out 21 20
 out A1 28
@@ -352,7 +352,7 @@ out A0 20
 in 20
 in A0
 ",
-        text: "ack 23 direct
+        text: b"ack 23 direct
 ack 2C direct
 ack 21 direct
 ack none
@@ -371,7 +371,7 @@ end
         name: "all lines, by priority",
         imcr: true,
         wired: Wired::Nothing,
-        calls: "out 20 11
+        calls: b"out 20 11
 out A0 11
 out 21 20
 out A1 28
@@ -436,7 +436,7 @@ ack
 out 20 20
 ack
 ",
-        text: "in 20 = FF
+        text: b"in 20 = FF
 in A0 = FF
 ack 20 direct
 ack 21 direct
@@ -461,7 +461,7 @@ end
         name: "an AT is initialised",
         imcr: true,
         wired: Wired::Nothing,
-        calls: "out 20 11
+        calls: b"out 20 11
 out A0 11
 out 21 08
 out A1 70
@@ -495,7 +495,7 @@ ack
 out 20 20
 ack
 ",
-        text: "in 21 = B8
+        text: b"in 21 = B8
 in A1 = 9F
 in 20 = 00
 in A0 = 00
@@ -513,7 +513,7 @@ end
         name: "nested interrupts of one controller",
         imcr: true,
         wired: Wired::Nothing,
-        calls: "out 20 11
+        calls: b"out 20 11
 out 21 20
 out 21 04
 out 21 01
@@ -559,7 +559,7 @@ out 20 20
 in 20
 ack
 ",
-        text: "ack 27 direct
+        text: b"ack 27 direct
 ack 26 direct
 ack 25 direct
 ack 24 direct
@@ -587,7 +587,7 @@ end
         name: "the end of a slave's interrupt",
         imcr: true,
         wired: Wired::Nothing,
-        calls: "out 20 11
+        calls: b"out 20 11
 out A0 11
 out 21 20
 out A1 28
@@ -612,7 +612,7 @@ out 20 20
 in 20
 ack
 ",
-        text: "ack 2C direct
+        text: b"ack 2C direct
 in 20 = 04
 in A0 = 10
 ack none

@@ -5,6 +5,7 @@ use crate::exports::{
     mptab_audit, mptab_build, mptab_canon, mptab_drill, mptab_madt, mptab_madtcmp, mptab_pic,
     mptab_pircmp, mptab_pirmake, mptab_raise, mptab_replay, mptab_route, mptab_show, mptab_trace,
 };
+use std::alloc::Global;
 use std::process::Abort;
 use std::test::Fail;
 
@@ -80,113 +81,121 @@ fn holds(rt: &impl Abort, name: &str, fact: bool) {
     assert!(rt; fact, "{name}");
 }
 
+/// The image of the board.
+fn board(alloc: Global) -> Result<Vec<u8>, Fail> {
+    let mut image = Vec::from_elem(alloc, 0u8, MIB)?;
+    let mut needed = 0;
+    let status = mptab_build(alloc, LISTING.as_bytes(), &mut image, &mut needed);
+    if status != 0 || needed != MIB {
+        return Err("the board isn't built".into());
+    }
+    Ok(image)
+}
+
+/// Asserts that `mptab_canon` answers by the same image.
+fn is_canonical(rt: &impl Abort, alloc: Global, image: &[u8]) -> Result<(), Fail> {
+    let mut again = Vec::from_elem(alloc, 1u8, MIB)?;
+    let mut needed = 0;
+    let status = mptab_canon(alloc, image, &mut again, &mut needed);
+    holds(rt, "canon", status == 0 && image == again.as_slice());
+    Ok(())
+}
+
+/// Asserts the listing, the findings and the routes of an image.
+fn is_told(rt: &impl Abort, alloc: Global, image: &[u8]) {
+    let mut room = [0u8; 1024];
+    let mut needed = 0;
+    let status = mptab_show(alloc, image, &mut room, &mut needed);
+    holds(rt, "show", is(status, &room, needed, LISTING));
+    let status = mptab_audit(alloc, image, &mut room, &mut needed);
+    holds(rt, "audit", is(status, &room, needed, "findings 0\n"));
+    let status = mptab_route(alloc, image, 0, &mut room, &mut needed);
+    let route = "route 0 io 0 pin 1 vector 21 low 00000021 high 00000000\n";
+    holds(rt, "route", is(status, &room, needed, route));
+}
+
 #[test]
 fn calls_on_an_image(rt: HostRuntime) -> Result<(), Fail> {
-    let alloc = rt.alloc();
-    let mut image = Vec::from_elem(alloc, 0u8, MIB)?;
-    let mut again = Vec::from_elem(alloc, 1u8, MIB)?;
-    let mut room = Vec::from_elem(alloc, 0u8, 1024)?;
+    let image = board(rt.alloc())?;
+    is_told(&rt, rt.alloc(), image.as_slice());
+    is_canonical(&rt, rt.alloc(), image.as_slice())
+}
+
+/// Asserts the report of an image's board, with room and without.
+fn is_traced(rt: &impl Abort, alloc: Global, image: &[u8]) {
+    let mut room = [7u8; 1024];
     let mut needed = 0;
-    let status = mptab_build(alloc, LISTING.as_bytes(), image.as_mut_slice(), &mut needed);
-    holds(&rt, "build", status == 0 && needed == MIB);
-    let status = mptab_canon(alloc, image.as_slice(), again.as_mut_slice(), &mut needed);
-    holds(
-        &rt,
-        "canon",
-        status == 0 && image.as_slice() == again.as_slice(),
-    );
-    let status = mptab_show(alloc, image.as_slice(), room.as_mut_slice(), &mut needed);
-    holds(&rt, "show", is(status, room.as_slice(), needed, LISTING));
-    let status = mptab_audit(alloc, image.as_slice(), room.as_mut_slice(), &mut needed);
-    holds(
-        &rt,
-        "audit",
-        is(status, room.as_slice(), needed, "findings 0\n"),
-    );
-    let status = mptab_route(alloc, image.as_slice(), 0, room.as_mut_slice(), &mut needed);
-    let route = "route 0 io 0 pin 1 vector 21 low 00000021 high 00000000\n";
-    holds(&rt, "route", is(status, room.as_slice(), needed, route));
-    Ok(())
+    let script = SCRIPT.as_bytes();
+    let status = mptab_trace(alloc, image, script, &mut [], &mut needed);
+    holds(rt, "no room", status == 64 && needed == REPORT.len());
+    let status = mptab_trace(alloc, image, script, &mut room, &mut needed);
+    holds(rt, "trace", is(status, &room, needed, REPORT));
+    holds(rt, "beside", room.get(needed) == Some(&7));
+}
+
+/// Asserts the verdict on that report, and a drill.
+fn is_judged(rt: &impl Abort, alloc: Global, image: &[u8]) {
+    let mut room = [0u8; 1024];
+    let mut needed = 0;
+    let (script, report) = (SCRIPT.as_bytes(), REPORT.as_bytes());
+    let status = mptab_replay(alloc, image, script, report, &mut room, &mut needed);
+    holds(rt, "replay", is(status, &room, needed, "replay legal\n"));
+    let status = mptab_drill(alloc, 0, &mut room, &mut needed);
+    holds(rt, "drill", is(status, &room, needed, DRILL));
 }
 
 #[test]
 fn calls_on_a_board(rt: HostRuntime) -> Result<(), Fail> {
-    let alloc = rt.alloc();
-    let mut image = Vec::from_elem(alloc, 0u8, MIB)?;
-    let mut room = Vec::from_elem(alloc, 7u8, 1024)?;
-    let mut needed = 0;
-    let status = mptab_build(alloc, LISTING.as_bytes(), image.as_mut_slice(), &mut needed);
-    holds(&rt, "build", status == 0);
-    let (image, script) = (image.as_slice(), SCRIPT.as_bytes());
-    let status = mptab_trace(alloc, image, script, &mut [], &mut needed);
-    holds(&rt, "no room", status == 64 && needed == REPORT.len());
-    let status = mptab_trace(alloc, image, script, room.as_mut_slice(), &mut needed);
-    holds(&rt, "trace", is(status, room.as_slice(), needed, REPORT));
-    holds(&rt, "beside", room.as_slice().get(needed) == Some(&7));
-    let report = REPORT.as_bytes();
-    let status = mptab_replay(
-        alloc,
-        image,
-        script,
-        report,
-        room.as_mut_slice(),
-        &mut needed,
-    );
-    holds(
-        &rt,
-        "replay",
-        is(status, room.as_slice(), needed, "replay legal\n"),
-    );
-    let status = mptab_drill(alloc, 0, room.as_mut_slice(), &mut needed);
-    holds(&rt, "drill", is(status, room.as_slice(), needed, DRILL));
+    let image = board(rt.alloc())?;
+    is_traced(&rt, rt.alloc(), image.as_slice());
+    is_judged(&rt, rt.alloc(), image.as_slice());
     Ok(())
+}
+
+/// Asserts that `mptab_raise` answers by the same image.
+fn is_raised(rt: &impl Abort, alloc: Global, image: &[u8]) -> Result<(), Fail> {
+    let mut again = Vec::from_elem(alloc, 1u8, MIB)?;
+    let mut needed = 0;
+    let status = mptab_raise(alloc, image, &mut again, &mut needed);
+    holds(rt, "raise", status == 0 && image == again.as_slice());
+    Ok(())
+}
+
+/// Asserts the MADT of an image, and that it differs nowhere.
+fn has_its_madt(rt: &impl Abort, alloc: Global, image: &[u8]) {
+    let mut room = [0u8; 64];
+    let mut needed = 0;
+    let status = mptab_madt(alloc, image, 0, &mut room, &mut needed);
+    holds(rt, "madt", status == 0 && room.as_slice() == MADT);
+    let status = mptab_madtcmp(alloc, image, 0, MADT, &mut room, &mut needed);
+    holds(rt, "madtcmp", is(status, &room, needed, "differs 0\n"));
+}
+
+/// Asserts the routing table of an image, and that it differs nowhere.
+fn has_its_routing_table(rt: &impl Abort, alloc: Global, image: &[u8]) {
+    let mut room = [0u8; 64];
+    let mut needed = 0;
+    let status = mptab_pirmake(alloc, image, &mut room, &mut needed);
+    let made = status == 0 && room.get(..needed) == Some(PIR);
+    holds(rt, "pirmake", made);
+    let status = mptab_pircmp(alloc, image, PIR, &mut room, &mut needed);
+    holds(rt, "pircmp", is(status, &room, needed, "differs 0\n"));
+}
+
+/// Asserts what a pair of 8259A answers to an acknowledge cycle before its initialization.
+fn is_acknowledged(rt: &impl Abort, alloc: Global, image: &[u8]) {
+    let mut room = [0u8; 64];
+    let mut needed = 0;
+    let script = SCRIPT.as_bytes();
+    let status = mptab_pic(alloc, image, script, b"ack\n", &mut room, &mut needed);
+    holds(rt, "pic", is(status, &room, needed, "ack none\nend\n"));
 }
 
 #[test]
 fn calls_on_other_tables(rt: HostRuntime) -> Result<(), Fail> {
-    let alloc = rt.alloc();
-    let mut image = Vec::from_elem(alloc, 0u8, MIB)?;
-    let mut again = Vec::from_elem(alloc, 1u8, MIB)?;
-    let mut room = Vec::from_elem(alloc, 0u8, 64)?;
-    let mut needed = 0;
-    let status = mptab_build(alloc, LISTING.as_bytes(), image.as_mut_slice(), &mut needed);
-    holds(&rt, "build", status == 0);
-    let image = image.as_slice();
-    let status = mptab_raise(alloc, image, again.as_mut_slice(), &mut needed);
-    holds(&rt, "raise", status == 0 && image == again.as_slice());
-    let status = mptab_madt(alloc, image, 0, room.as_mut_slice(), &mut needed);
-    holds(&rt, "madt", status == 0 && room.as_slice() == MADT);
-    let status = mptab_madtcmp(alloc, image, 0, MADT, room.as_mut_slice(), &mut needed);
-    holds(
-        &rt,
-        "madtcmp",
-        is(status, room.as_slice(), needed, "differs 0\n"),
-    );
-    let status = mptab_pirmake(alloc, image, room.as_mut_slice(), &mut needed);
-    holds(
-        &rt,
-        "pirmake",
-        status == 0 && room.get(..needed) == Some(PIR),
-    );
-    let status = mptab_pircmp(alloc, image, PIR, room.as_mut_slice(), &mut needed);
-    holds(
-        &rt,
-        "pircmp",
-        is(status, room.as_slice(), needed, "differs 0\n"),
-    );
-    let (script, calls) = (SCRIPT.as_bytes(), b"ack\n");
-    let status = mptab_pic(
-        alloc,
-        image,
-        script,
-        calls,
-        room.as_mut_slice(),
-        &mut needed,
-    );
-    holds(
-        &rt,
-        "pic",
-        is(status, room.as_slice(), needed, "ack none\nend\n"),
-    );
-    Ok(())
+    let image = board(rt.alloc())?;
+    has_its_madt(&rt, rt.alloc(), image.as_slice());
+    has_its_routing_table(&rt, rt.alloc(), image.as_slice());
+    is_acknowledged(&rt, rt.alloc(), image.as_slice());
+    is_raised(&rt, rt.alloc(), image.as_slice())
 }

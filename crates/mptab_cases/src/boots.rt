@@ -15,9 +15,9 @@ pub mod worked;
 /// The tables of a row.
 pub enum Tables {
     /// Those of a listing.
-    Text(&'static str),
+    Text(&'static [u8]),
     /// Entries, and lines of further base entries, behind a floating pointer with IMCRP clear.
-    Listed(&'static [Entry], &'static str),
+    Listed(&'static [Entry], &'static [u8]),
 }
 
 /// Base entries.
@@ -45,11 +45,11 @@ pub struct Row {
     /// The tables of the image.
     pub tables: Tables,
     /// The script's text.
-    pub script: &'static str,
+    pub script: &'static [u8],
     /// The call's status.
     pub status: u8,
     /// The whole text; or, where it doesn't end with the line `end`, the first lines of a report.
-    pub text: &'static str,
+    pub text: &'static [u8],
 }
 
 /// Words, and the status and text that answer them.
@@ -59,7 +59,7 @@ pub struct Case {
     /// The call's status.
     pub status: u8,
     /// The whole text.
-    pub text: &'static str,
+    pub text: &'static [u8],
 }
 
 /// The name under which an image lies on the shelf.
@@ -75,13 +75,13 @@ pub const REPORT: &str = "report.txt";
 pub const BOTH: &[&str] = &["trace", "boot"];
 
 /// One processor.
-pub const ONE: Tables = Tables::Listed(&[Entry::Boot(0)], "");
+pub const ONE: Tables = Tables::Listed(&[Entry::Boot(0)], b"");
 
 /// What is answered to words that are no form.
-pub const USAGE: &str = "mptab: usage\n";
+pub const USAGE: &[u8] = b"mptab: usage\n";
 
 /// The report of one processor without words.
-pub const NOTHING: &str = "mpboot 1
+pub const NOTHING: &[u8] = b"mpboot 1
 entries 0
 state imcr none
 state cpu 00 first tpr 00 irr - isr - tmr -

@@ -32,17 +32,22 @@ fn length_bytes(length: usize) -> [u8; 2] {
     [(length % 256) as u8, (length / 256 % 256) as u8]
 }
 
+/// Writes lengths, count and checksums into a header with its base entries behind it.
+fn put_sums(table: &mut [u8], count: u8, ext: &[u8]) {
+    let base_length = table.len();
+    put(table, 4, &length_bytes(base_length));
+    put(table, 34, &[count]);
+    put(table, 40, &length_bytes(ext.len()));
+    put(table, 42, &[checksum(ext)]);
+    let sum = checksum(table);
+    put(table, 7, &[sum]);
+}
+
 /// The bytes of a table with these entries, whose lengths and checksums are right.
 fn table_with(alloc: Global, base: &[u8], count: u8, ext: &[u8]) -> Result<Vec<u8>, Fail> {
     let mut table = Vec::from_slice(alloc, HEADER)?;
     table.extend_from_slice(base)?;
-    let base_length = table.len();
-    put(&mut table, 4, &length_bytes(base_length));
-    put(&mut table, 34, &[count]);
-    put(&mut table, 40, &length_bytes(ext.len()));
-    put(&mut table, 42, &[checksum(ext)]);
-    let sum = checksum(table.as_slice());
-    put(&mut table, 7, &[sum]);
+    put_sums(table.as_mut_slice(), count, ext);
     table.extend_from_slice(ext)?;
     Ok(table)
 }

@@ -213,14 +213,19 @@ fn routed_by(
     ))
 }
 
+/// Asserts the first routes of an image by each ELCR, and how many there are.
+fn are_routed(rt: &impl Abort, alloc: Global, image: &[u8]) -> Result<(), Fail> {
+    for (elcr, first) in BY_ELCR {
+        let got = routed_by(alloc, image, elcr, first)?;
+        same(rt, elcr, got, (0, true, 14));
+    }
+    Ok(())
+}
+
 #[test]
 fn routes_of_default_configuration_2(rt: HostRuntime) -> Result<(), Fail> {
     let image = image_with(rt.alloc(), 0x100000, &[DEFAULT_2])?;
-    for (elcr, first) in BY_ELCR {
-        let got = routed_by(rt.alloc(), image.as_slice(), elcr, first)?;
-        same(&rt, elcr, got, (0, true, 14));
-    }
-    Ok(())
+    are_routed(&rt, rt.alloc(), image.as_slice())
 }
 
 /// Words that are no form beside `route`'s own.
@@ -237,14 +242,19 @@ const NO_FORMS: &[&[&str]] = &[
     &["Route", "image", "0000"],
 ];
 
+/// Asserts that they are answered by the usage, beside an image.
+fn are_no_forms(rt: &impl Abort, alloc: Global, image: &[u8]) -> Result<(), Fail> {
+    for words in NO_FORMS {
+        let right = answers(alloc, words, image, 2, b"mptab: usage\n")?;
+        same(rt, "words that are no form", right, true);
+    }
+    Ok(())
+}
+
 #[test]
 fn words_of_the_commands(rt: HostRuntime) -> Result<(), Fail> {
     let image = image_with(rt.alloc(), 0x100000, &[DEFAULT_2])?;
-    for words in NO_FORMS {
-        let right = answers(rt.alloc(), words, image.as_slice(), 2, b"mptab: usage\n")?;
-        same(&rt, "words that are no form", right, true);
-    }
-    Ok(())
+    are_no_forms(&rt, rt.alloc(), image.as_slice())
 }
 
 /// Asserts what `audit` answers to an image of 1 MiB with these pieces.
@@ -286,13 +296,14 @@ fn is_refused(alloc: Global, parts: &[&str], text: &str) -> Result<bool, Fail> {
     Ok(answer.is(8, text.as_bytes()))
 }
 
-/// The usual board's listing without its last line, and with two of them; and one with a bad line.
-#[test]
-fn listings_that_are_refused(rt: HostRuntime) -> Result<(), Fail> {
-    let early = [FIRST, POINTER_LINE, to_interrupts(), LOCAL_INTR, LOCAL_NMI];
-    let right = is_refused(rt.alloc(), &early, "mptab: listing line 28 Early\n")?;
-    same(&rt, "no last line", right, true);
-    let late = [
+/// The usual board's listing without its last line.
+fn without_end() -> [&'static str; 5] {
+    [FIRST, POINTER_LINE, to_interrupts(), LOCAL_INTR, LOCAL_NMI]
+}
+
+/// The usual board's listing with two last lines.
+fn with_two_ends() -> [&'static str; 7] {
+    [
         FIRST,
         POINTER_LINE,
         to_interrupts(),
@@ -300,8 +311,16 @@ fn listings_that_are_refused(rt: HostRuntime) -> Result<(), Fail> {
         LOCAL_NMI,
         END,
         END,
-    ];
-    let right = is_refused(rt.alloc(), &late, "mptab: listing line 29 Late\n")?;
+    ]
+}
+
+#[test]
+fn listings_that_are_refused(rt: HostRuntime) -> Result<(), Fail> {
+    let early = "mptab: listing line 28 Early\n";
+    let right = is_refused(rt.alloc(), &without_end(), early)?;
+    same(&rt, "no last line", right, true);
+    let late = "mptab: listing line 29 Late\n";
+    let right = is_refused(rt.alloc(), &with_two_ends(), late)?;
     same(&rt, "two last lines", right, true);
     let right = is_refused(rt.alloc(), BAD, "mptab: listing line 2 Form\n")?;
     same(&rt, "a revision of one digit", right, true);

@@ -2,12 +2,13 @@
 
 use crate::board::{HEAD, board_with};
 use crate::harness::{
-    Answer, NAME, ROOM, answer_of, answer_over, image_with, same, shelf_with, words_of,
+    Answer, NAME, answer_of, answer_over, image_with, same, shelf_with, sink_of, words_of,
 };
-use mpt_base::{MemShelf, MemSink};
+use mpt_base::MemShelf;
 use mptab_calls::run;
 use mptab_cases::images::{POINTER, Piece, SMALL_POINTER, WORD};
 use std::alloc::Global;
+use std::process::Abort;
 use std::sync::Wait;
 use std::test::Fail;
 use std::thread::Threads;
@@ -127,16 +128,20 @@ fn top_answer<R: Threads + Wait + Sync>(
     shelf: &mut MemShelf,
 ) -> Result<Answer, Fail> {
     let words = words_of(alloc, &["show", NAME])?;
-    let mut sink = MemSink::new(alloc, ROOM)?;
+    let mut sink = sink_of(alloc, 0)?;
     let status = run(rt, alloc, words.as_slice(), shelf, &mut sink);
-    let text = Vec::from_slice(alloc, sink.bytes())?;
-    Ok(Answer { status, text })
+    Answer::with(alloc, status, &sink)
+}
+
+/// What it answers over the board.
+fn top_answer_of_board<R: Threads + Wait + Sync>(rt: &R, alloc: Global) -> Result<Answer, Fail> {
+    let mut shelf = small_board(alloc, 0)?;
+    top_answer(rt, alloc, &mut shelf)
 }
 
 #[test]
 fn top_call(rt: HostRuntime) -> Result<(), Fail> {
-    let mut shelf = small_board(rt.alloc(), 0)?;
-    let answer = top_answer(&rt, rt.alloc(), &mut shelf)?;
+    let answer = top_answer_of_board(&rt, rt.alloc())?;
     same(&rt, "the status", answer.status, 0);
     same(&rt, "the text", answer.text.as_slice(), LISTING.as_bytes());
     Ok(())
@@ -155,11 +160,16 @@ fn want_of_memory(rt: HostRuntime) -> Result<(), Fail> {
 /// More calls than the shelf or the sink has in any of these runs.
 const MANY: u64 = 64;
 
+/// A shelf with the board in an image of 1 MiB, of which a call fails; 0 is none.
+fn large_board(alloc: Global, failing: u64) -> Result<MemShelf, Fail> {
+    let image = image_with(alloc, 0x100000, BOARD)?;
+    shelf_with(alloc, image.as_slice(), failing)
+}
+
 /// The answer of `show` to the board in an image of 1 MiB, where a call of the shelf fails. No more is asked
 /// for than the windows let.
 fn board_answer(alloc: Global, failing: u64) -> Result<Answer, Fail> {
-    let image = image_with(alloc, 0x100000, BOARD)?;
-    let mut shelf = shelf_with(alloc, image.as_slice(), failing)?;
+    let mut shelf = large_board(alloc, failing)?;
     let answer = answer_of(alloc, &["show", NAME], &mut shelf, 0)?;
     if shelf.asked_bytes() > 197_694 {
         return Err("more was asked for than the windows let".into());
@@ -207,19 +217,19 @@ fn failing_puts(alloc: Global, words: &[&str], image: &[u8], text: &[u8]) -> Res
     Err("each run meets a failure".into())
 }
 
-#[test]
-fn puts_of_the_sink(rt: HostRuntime) -> Result<(), Fail> {
-    let image = image_with(rt.alloc(), 0x550, SMALL_BOARD)?;
+/// Asserts that each case makes a put, over this image.
+fn each_case_has_puts(rt: &impl Abort, alloc: Global, image: &[u8]) -> Result<(), Fail> {
     for case in cases() {
-        let puts = failing_puts(
-            rt.alloc(),
-            case.words,
-            image.as_slice(),
-            case.text.as_bytes(),
-        )?;
+        let puts = failing_puts(alloc, case.words, image, case.text.as_bytes())?;
         assert!(rt; puts > 0, "a put is made");
     }
     Ok(())
+}
+
+#[test]
+fn puts_of_the_sink(rt: HostRuntime) -> Result<(), Fail> {
+    let image = image_with(rt.alloc(), 0x550, SMALL_BOARD)?;
+    each_case_has_puts(&rt, rt.alloc(), image.as_slice())
 }
 
 /// 200 buses.

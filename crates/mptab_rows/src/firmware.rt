@@ -19,12 +19,18 @@ pub(crate) struct Row {
     pub(crate) text: &'static [u8],
 }
 
-/// A shelf with this image, a script without words, and this file.
-fn shelf_beside(alloc: Global, image: &[u8], file: &[u8]) -> Result<MemShelf, Fail> {
-    let mut shelf = MemShelf::new(alloc);
+/// Puts an image, a script without words and a file on a shelf.
+fn add_files(shelf: &mut MemShelf, image: &[u8], file: &[u8]) -> Result<(), Fail> {
     shelf.add("image", image)?;
     shelf.add("script", SCRIPT)?;
     shelf.add("file", file)?;
+    Ok(())
+}
+
+/// A shelf with this image, a script without words, and this file.
+fn shelf_beside(alloc: Global, image: &[u8], file: &[u8]) -> Result<MemShelf, Fail> {
+    let mut shelf = MemShelf::new(alloc);
+    add_files(&mut shelf, image, file)?;
     Ok(shelf)
 }
 

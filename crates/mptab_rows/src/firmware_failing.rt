@@ -54,6 +54,19 @@ fn failing(alloc: Global, image: &[u8], case: &Case, call: u64, put: u64) -> Res
     answer_beside(alloc, case.words, image, case.file, call, put)
 }
 
+/// Whether a case whose call of the shelf fails, and whose put, is answered so.
+fn fails_so(
+    alloc: Global,
+    image: &[u8],
+    case: &Case,
+    (call, put): (u64, u64),
+    status: u8,
+    text: &[u8],
+) -> Result<bool, Fail> {
+    let answer = failing(alloc, image, case, call, put)?;
+    Ok(answer.is(status, text))
+}
+
 /// How many calls of the shelf a case makes: one that fails behind the last changes nothing.
 fn calls_of(alloc: Global, image: &[u8], case: &Case) -> Result<u64, Fail> {
     for call in 1..100 {
@@ -67,22 +80,28 @@ fn calls_of(alloc: Global, image: &[u8], case: &Case) -> Result<u64, Fail> {
 /// Asserts that each failing call is told, and which file the first and the last were for.
 fn tells_failures(rt: &impl Abort, alloc: Global, image: &[u8], case: &Case) -> Result<(), Fail> {
     let calls = calls_of(alloc, image, case)?;
-    let first = failing(alloc, image, case, 1, 0)?.is(4, b"mptab: cannot read image\n");
+    let line = b"mptab: cannot read image\n";
+    let first = fails_so(alloc, image, case, (1, 0), 4, line)?;
     same(rt, "the first call", first, true);
-    let last = failing(alloc, image, case, calls, 0)?.is(4, case.last);
+    let last = fails_so(alloc, image, case, (calls, 0), 4, case.last)?;
     same(rt, "the last call", last, true);
-    let put = failing(alloc, image, case, 0, 1)?.is(5, b"");
+    let put = fails_so(alloc, image, case, (0, 1), 5, b"")?;
     same(rt, "the first put", put, true);
+    Ok(())
+}
+
+/// Asserts it of each case.
+fn each_tells_failures(rt: &impl Abort, alloc: Global, image: &[u8]) -> Result<(), Fail> {
+    for case in CASES {
+        tells_failures(rt, alloc, image, case)?;
+    }
     Ok(())
 }
 
 #[test]
 fn failures(rt: HostRuntime) -> Result<(), Fail> {
     let image = image_of(rt.alloc(), usual())?;
-    for case in CASES {
-        tells_failures(&rt, rt.alloc(), image.as_slice(), case)?;
-    }
-    Ok(())
+    each_tells_failures(&rt, rt.alloc(), image.as_slice())
 }
 
 /// Whether these words are answered so with a file of 1,048,577 bytes.
@@ -99,12 +118,17 @@ const READ: &[&[&str]] = &[
     &["pic", "image", "script", "file"],
 ];
 
+/// Asserts that none of them is read past its limit.
+fn each_has_its_limit(rt: &impl Abort, alloc: Global, image: &[u8]) -> Result<(), Fail> {
+    for words in READ {
+        let right = is_past_limit(alloc, image, words)?;
+        same(rt, "a file past its limit", right, true);
+    }
+    Ok(())
+}
+
 #[test]
 fn limits(rt: HostRuntime) -> Result<(), Fail> {
     let image = image_of(rt.alloc(), usual())?;
-    for words in READ {
-        let right = is_past_limit(rt.alloc(), image.as_slice(), words)?;
-        same(&rt, "a file past its limit", right, true);
-    }
-    Ok(())
+    each_has_its_limit(&rt, rt.alloc(), image.as_slice())
 }

@@ -106,18 +106,26 @@ const DIRECT: &[Row] = &[Row {
     text: b"ack 21 direct\nend\n",
 }];
 
-#[test]
-fn ways_of_intr(rt: HostRuntime) -> Result<(), Fail> {
-    let without = [FIRST, POINTER, to_interrupts(), LOCAL_NMI, END];
-    are_answered(&rt, rt.alloc(), "by a pin", &without, BY_PIN)?;
-    are_answered(&rt, rt.alloc(), "closed", TWO_PROCESSORS, CLOSED)?;
-    let imcr = [
+/// The board whose LINTIN 0 isn't wired.
+fn without_intr() -> [&'static str; 5] {
+    [FIRST, POINTER, to_interrupts(), LOCAL_NMI, END]
+}
+
+/// The board with an interrupt mode register.
+fn with_imcr() -> [&'static str; 6] {
+    [
         FIRST,
         IMCR_POINTER,
         to_interrupts(),
         LOCAL_INTR,
         LOCAL_NMI,
         END,
-    ];
-    are_answered(&rt, rt.alloc(), "direct", &imcr, DIRECT)
+    ]
+}
+
+#[test]
+fn ways_of_intr(rt: HostRuntime) -> Result<(), Fail> {
+    are_answered(&rt, rt.alloc(), "by a pin", &without_intr(), BY_PIN)?;
+    are_answered(&rt, rt.alloc(), "closed", TWO_PROCESSORS, CLOSED)?;
+    are_answered(&rt, rt.alloc(), "direct", &with_imcr(), DIRECT)
 }

@@ -27,9 +27,28 @@ pub(crate) struct Answer {
 }
 
 impl Answer {
+    /// This status, with what the sink holds.
+    pub(crate) fn with(alloc: Global, status: u8, sink: &MemSink) -> Result<Answer, Fail> {
+        let text = Vec::from_slice(alloc, sink.bytes())?;
+        Ok(Answer { status, text })
+    }
+
     /// Whether it is this status with this text.
     pub(crate) fn is(&self, status: u8, text: &[u8]) -> bool {
         self.status == status && self.text.as_slice() == text
+    }
+
+    /// Whether it is this status with this text; where the text is no whole report, with a whole report that
+    /// begins with it.
+    pub(crate) fn reports(&self, status: u8, text: &[u8]) -> bool {
+        let written = self.text.as_slice();
+        if self.status != status {
+            false
+        } else if text.starts_with(b"mpboot 1\n") && !text.ends_with(b"\nend\n") {
+            written.starts_with(text) && written.ends_with(b"\nend\n")
+        } else {
+            written == text
+        }
     }
 
     /// Whether it is this status with a text that ends like this.
@@ -40,7 +59,7 @@ impl Answer {
 
 /// Asserts that two values are the same, at one place for every row.
 pub(crate) fn same<T: PartialEq + Debug + Drop>(rt: &impl Abort, name: &str, got: T, want: T) {
-    assert_eq!(rt; got, want, "{name}");
+    assert_eq!(rt; (name, got), (name, want));
 }
 
 /// The image of these pieces.
@@ -68,13 +87,11 @@ fn put_number(image: &mut [u8], at: usize, count: usize, number: u128) {
     }
 }
 
-/// Writes bytes at a place. What passes the end is left out.
+/// Writes bytes at a place. Where they pass the end, those that do are left out.
 pub(crate) fn put(image: &mut [u8], at: usize, bytes: &[u8]) {
-    if let Some(rest) = image.get_mut(at..) {
-        for (cell, byte) in rest.iter_mut().zip(bytes.iter()) {
-            *cell = *byte;
-        }
-    }
+    let from = at.min(image.len());
+    let count = bytes.len().min(image.len() - from);
+    image[from..from + count].copy_from_slice(&bytes[..count]);
 }
 
 /// A shelf with this one file.
@@ -109,6 +126,13 @@ pub(crate) fn words_of(alloc: Global, words: &[&str]) -> Result<Vec<String>, Fai
     Ok(owned)
 }
 
+/// A sink whose put of this number fails; 0 is none.
+pub(crate) fn sink_of(alloc: Global, failing: u64) -> Result<MemSink, Fail> {
+    let mut sink = MemSink::new(alloc, ROOM)?;
+    sink.fail(failing)?;
+    Ok(sink)
+}
+
 /// The answer to these words. The put of this number fails; 0 is none.
 pub(crate) fn answer_of(
     alloc: Global,
@@ -117,11 +141,9 @@ pub(crate) fn answer_of(
     failing: u64,
 ) -> Result<Answer, Fail> {
     let owned = words_of(alloc, words)?;
-    let mut sink = MemSink::new(alloc, ROOM)?;
-    sink.fail(failing)?;
+    let mut sink = sink_of(alloc, failing)?;
     let status = run_still(alloc, owned.as_slice(), shelf, &mut sink);
-    let text = Vec::from_slice(alloc, sink.bytes())?;
-    Ok(Answer { status, text })
+    Answer::with(alloc, status, &sink)
 }
 
 /// The same where one file is there, of this name and with these bytes.
@@ -141,13 +163,19 @@ pub(crate) fn built(alloc: Global, listing: &[u8]) -> Result<Answer, Fail> {
     answer_over(alloc, &["build", "list"], "list", listing, 0)
 }
 
-/// The image of the listing of these parts.
-pub(crate) fn image_of(alloc: Global, listing: &[&str]) -> Result<Vec<u8>, Fail> {
-    let image = built_of(alloc, listing)?;
+/// The image of a listing.
+pub(crate) fn image_of_listing(alloc: Global, listing: &[u8]) -> Result<Vec<u8>, Fail> {
+    let image = built(alloc, listing)?;
     if image.status != 0 {
         return Err("the tables of a row aren't built".into());
     }
     Ok(image.text)
+}
+
+/// The image of the listing of these parts.
+pub(crate) fn image_of(alloc: Global, listing: &[&str]) -> Result<Vec<u8>, Fail> {
+    let text = text_of(alloc, listing)?;
+    image_of_listing(alloc, text.as_slice())
 }
 
 /// What `build` answers to the listing of these parts.

@@ -6,6 +6,7 @@ use crate::harness::{
 };
 use mptab_cases::images::{POINTER, Piece, Row};
 use std::alloc::Global;
+use std::process::Abort;
 use std::test::Fail;
 
 /// The length of an image.
@@ -110,15 +111,19 @@ fn old_image_after(alloc: Global, words: &[&str]) -> Result<Answer, Fail> {
     of_image(alloc, words, image.as_slice())
 }
 
+/// Asserts that an image is the board's with revision 4, and raised already.
+fn is_raised(rt: &impl Abort, alloc: Global, image: &[u8]) -> Result<(), Fail> {
+    let shown = answers(alloc, &["show", "image"], image, 0, BOARD.as_bytes())?;
+    same(rt, "the listing", shown, true);
+    let again = answers(alloc, &["raise", "image"], image, 0, image)?;
+    same(rt, "raised again", again, true);
+    Ok(())
+}
+
 #[test]
 fn old_tables_are_raised(rt: HostRuntime) -> Result<(), Fail> {
     let raised = old_image_after(rt.alloc(), &["raise", "image"])?;
-    let image = raised.text.as_slice();
-    let shown = answers(rt.alloc(), &["show", "image"], image, 0, BOARD.as_bytes())?;
-    same(&rt, "the listing", shown, true);
-    let again = answers(rt.alloc(), &["raise", "image"], image, 0, image)?;
-    same(&rt, "raised again", again, true);
-    Ok(())
+    is_raised(&rt, rt.alloc(), raised.text.as_slice())
 }
 
 #[test]
@@ -141,29 +146,27 @@ fn two_revisions_are_a_finding(rt: HostRuntime) -> Result<(), Fail> {
 }
 
 /// Whether `show` answers by a listing to the image that is built of it.
-fn is_built_and_shown(alloc: Global, listing: &str) -> Result<bool, Fail> {
-    let image = built(alloc, listing.as_bytes())?;
-    answers(
-        alloc,
-        &["show", "image"],
-        image.text.as_slice(),
-        0,
-        listing.as_bytes(),
-    )
+fn is_built_and_shown(alloc: Global, listing: &[u8]) -> Result<bool, Fail> {
+    let image = built(alloc, listing)?;
+    answers(alloc, &["show", "image"], image.text.as_slice(), 0, listing)
+}
+
+/// The listing of revision 1.
+fn old_board() -> &'static [u8] {
+    OLD_BOARD.as_bytes()
 }
 
 /// The listing of revision 1 with an extended entry.
 fn listing_with_an_extended_entry(alloc: Global) -> Result<Vec<u8>, Fail> {
-    let mut text = Vec::new(alloc);
-    text.extend_from_slice(OLD_BOARD.as_bytes())?;
-    text.truncate(OLD_BOARD.len() - 4);
+    let mut text = Vec::from_slice(alloc, old_board())?;
+    text.truncate(old_board().len() - 4);
     text.extend_from_slice(b"opaque kind C8 rest -\nend\n")?;
     Ok(text)
 }
 
 #[test]
 fn old_listings_are_built(rt: HostRuntime) -> Result<(), Fail> {
-    let shown = is_built_and_shown(rt.alloc(), OLD_BOARD)?;
+    let shown = is_built_and_shown(rt.alloc(), old_board())?;
     same(&rt, "the listing", shown, true);
     let text = listing_with_an_extended_entry(rt.alloc())?;
     let refused = built(rt.alloc(), text.as_slice())?.is(8, b"mptab: listing line 5 Form\n");

@@ -2,10 +2,10 @@
 //! part.
 
 use crate::harness::are_shown;
-use mptab_cases::images::sizes::SIZES;
+use mptab_cases::images::sizes::sizes;
 use std::test::Fail;
 
 #[test]
 fn sizes_that_cut(rt: HostRuntime) -> Result<(), Fail> {
-    are_shown(&rt, rt.alloc(), SIZES)
+    are_shown(&rt, rt.alloc(), sizes())
 }

@@ -74,6 +74,14 @@ const EXT: &[Entry] = &[
     },
 ];
 
+fn base_entries() -> &'static [Entry] {
+    BASE
+}
+
+fn ext_entries() -> &'static [Entry] {
+    EXT
+}
+
 /// The bytes of these entries, end to end.
 fn joined(alloc: Global, entries: &[Entry]) -> Result<Vec<u8>, Fail> {
     let mut bytes = Vec::new(alloc);
@@ -93,16 +101,16 @@ fn push_lines(text: &mut Vec<u8>, entries: &[Entry]) -> Result<(), Fail> {
 
 /// The answer to a board of both.
 fn answer_of_all(alloc: Global) -> Result<Answer, Fail> {
-    let base = joined(alloc, BASE)?;
-    let ext = joined(alloc, EXT)?;
+    let base = joined(alloc, base_entries())?;
+    let ext = joined(alloc, ext_entries())?;
     answer_with(alloc, base.as_slice(), 7, ext.as_slice())
 }
 
 /// The listing of that board.
 fn listing_of_all(alloc: Global) -> Result<Vec<u8>, Fail> {
     let mut text = Vec::from_slice(alloc, HEAD.as_bytes())?;
-    push_lines(&mut text, BASE)?;
-    push_lines(&mut text, EXT)?;
+    push_lines(&mut text, base_entries())?;
+    push_lines(&mut text, ext_entries())?;
     text.extend_from_slice(b"end\n")?;
     Ok(text)
 }
@@ -117,23 +125,28 @@ fn every_form(rt: HostRuntime) -> Result<(), Fail> {
 }
 
 /// Entries of one part of a table, and the answer to one that is cut.
+#[derive(Drop)]
 struct Part {
     is_base: bool,
     entries: &'static [Entry],
     cut: &'static [u8],
 }
 
-const BASE_PART: Part = Part {
-    is_base: true,
-    entries: BASE,
-    cut: b"mptab: fault 11 CutEntry at 0000053C\n",
-};
+fn base_part() -> Part {
+    Part {
+        is_base: true,
+        entries: base_entries(),
+        cut: b"mptab: fault 11 CutEntry at 0000053C\n",
+    }
+}
 
-const EXT_PART: Part = Part {
-    is_base: false,
-    entries: EXT,
-    cut: b"mptab: fault 16 CutExtEntry at 0000053C\n",
-};
+fn ext_part() -> Part {
+    Part {
+        is_base: false,
+        entries: ext_entries(),
+        cut: b"mptab: fault 16 CutExtEntry at 0000053C\n",
+    }
+}
 
 /// The answer to a board with these bytes of an entry in that part alone.
 fn answer_in(alloc: Global, part: &Part, bytes: &[u8]) -> Result<Answer, Fail> {
@@ -174,18 +187,10 @@ fn first_uncut(alloc: Global, part: &Part) -> Result<Option<&'static str>, Fail>
 
 #[test]
 fn every_cut(rt: HostRuntime) -> Result<(), Fail> {
-    same(
-        &rt,
-        "a base entry",
-        first_uncut(rt.alloc(), &BASE_PART)?,
-        None,
-    );
-    same(
-        &rt,
-        "an extended entry",
-        first_uncut(rt.alloc(), &EXT_PART)?,
-        None,
-    );
+    let uncut = first_uncut(rt.alloc(), &base_part())?;
+    same(&rt, "a base entry", uncut, None);
+    let uncut = first_uncut(rt.alloc(), &ext_part())?;
+    same(&rt, "an extended entry", uncut, None);
     Ok(())
 }
 

@@ -1,6 +1,7 @@
 //! Images read by windows: what is asked of them, and tables at the ends of what is searched.
 
 use crate::harness::{Answer, NAME, answer_of, image_with, same, shelf_with};
+use mpt_base::MemShelf;
 use mptab_cases::images::{POINTER, Piece};
 use std::alloc::Global;
 use std::test::Fail;
@@ -13,10 +14,15 @@ processor id 00 version 10 flags 03 signature 00000520 features 000001BF reserve
 end
 ";
 
+/// A shelf with an image of these pieces.
+fn shelf_of_pieces(alloc: Global, size: usize, pieces: &[Piece]) -> Result<MemShelf, Fail> {
+    let image = image_with(alloc, size, pieces)?;
+    shelf_with(alloc, image.as_slice(), 0)
+}
+
 /// What `show` answers to an image of these pieces, and how many bytes are asked for.
 fn shown(alloc: Global, size: usize, pieces: &[Piece]) -> Result<(Answer, u64), Fail> {
-    let image = image_with(alloc, size, pieces)?;
-    let mut shelf = shelf_with(alloc, image.as_slice(), 0)?;
+    let mut shelf = shelf_of_pieces(alloc, size, pieces)?;
     let answer = answer_of(alloc, &["show", NAME], &mut shelf, 0)?;
     Ok((answer, shelf.asked_bytes()))
 }

@@ -3,7 +3,11 @@
 use crate::boots::{Case, IMAGE, NOTHING, SCRIPT, USAGE};
 
 /// An image, a script, and an image whose tables are refused are there.
-pub const WORDS: &[Case] = &[
+pub fn words() -> &'static [Case] {
+    WORDS
+}
+
+const WORDS: &[Case] = &[
     Case {
         words: &["trace"],
         status: 2,
@@ -57,57 +61,57 @@ pub const WORDS: &[Case] = &[
     Case {
         words: &["replay", IMAGE, SCRIPT, SCRIPT],
         status: 8,
-        text: "mptab: report line 1 Form\n",
+        text: b"mptab: report line 1 Form\n",
     },
     Case {
         words: &["replay", IMAGE, IMAGE, "x"],
         status: 8,
-        text: "mptab: script not toml\n",
+        text: b"mptab: script not toml\n",
     },
     Case {
         words: &["trace", IMAGE, "x"],
         status: 3,
-        text: "mptab: no file x\n",
+        text: b"mptab: no file x\n",
     },
     Case {
         words: &["boot", IMAGE, ""],
         status: 3,
-        text: "mptab: no file \n",
+        text: b"mptab: no file \n",
     },
     Case {
         words: &["trace", "x", SCRIPT],
         status: 3,
-        text: "mptab: no file x\n",
+        text: b"mptab: no file x\n",
     },
     Case {
         words: &["boot", "x", "y"],
         status: 3,
-        text: "mptab: no file x\n",
+        text: b"mptab: no file x\n",
     },
     Case {
         words: &["trace", SCRIPT, "x"],
         status: 6,
-        text: "mptab: no floating pointer\n",
+        text: b"mptab: no floating pointer\n",
     },
     Case {
         words: &["boot", SCRIPT, IMAGE],
         status: 6,
-        text: "mptab: no floating pointer\n",
+        text: b"mptab: no floating pointer\n",
     },
     Case {
         words: &["trace", "bad", "x"],
         status: 7,
-        text: "mptab: fault 2 BadDefault at 0000040B\n",
+        text: b"mptab: fault 2 BadDefault at 0000040B\n",
     },
     Case {
         words: &["boot", "bad", SCRIPT],
         status: 7,
-        text: "mptab: fault 2 BadDefault at 0000040B\n",
+        text: b"mptab: fault 2 BadDefault at 0000040B\n",
     },
     Case {
         words: &["trace", IMAGE, IMAGE],
         status: 8,
-        text: "mptab: script not toml\n",
+        text: b"mptab: script not toml\n",
     },
     Case {
         words: &["trace", IMAGE, SCRIPT],

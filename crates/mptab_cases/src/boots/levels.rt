@@ -3,17 +3,21 @@
 use crate::boots::{Entry, Row, Tables};
 
 /// A cause for each message of a level pin, and none without.
-pub const ROWS: &[Row] = &[
+pub fn rows() -> &'static [Row] {
+    ROWS
+}
+
+const ROWS: &[Row] = &[
     Row {
         name: "a level message that nobody accepted needs a cause to be sent again",
         tables: Tables::Listed(
             &[Entry::Boot(0)],
-            "bus id 00 name \"PCI   \"
+            b"bus id 00 name \"PCI   \"
 ioapic id 01 version 11 flags 01 address FEC00000
 ioint kind 00 flags 0000 bus 00 irq 00 dest 01 pin 10
 ",
         ),
-        script: "page = 0x9F
+        script: b"page = 0x9F
 
 [[cpu]]
 id = 0
@@ -26,7 +30,7 @@ words = [
 words = [\"high 0 16\", \"high 0 16\", \"low 0 16\", \"high 0 16\"]
 ",
         status: 0,
-        text: "mpboot 1
+        text: b"mpboot 1
 entries 21
 0 cpu 00 iosel 0 31 : done
 1 cpu 00 iowin 0 00000000 : plain
@@ -60,10 +64,10 @@ end
         name: "an EOI sends no message again that nobody accepted",
         tables: Tables::Listed(
             &[Entry::Boot(0)],
-            "ioapic id 01 version 11 flags 01 address FEC00000
+            b"ioapic id 01 version 11 flags 01 address FEC00000
 ",
         ),
-        script: "page = 0x9F
+        script: b"page = 0x9F
 
 [[cpu]]
 id = 0
@@ -76,7 +80,7 @@ words = [
 words = [\"high 0 0\", \"high 0 1\"]
 ",
         status: 0,
-        text: "mpboot 1
+        text: b"mpboot 1
 entries 16
 0 cpu 00 iosel 0 11 : done
 1 dev 0 begin : done
@@ -105,12 +109,12 @@ end
         name: "remote IRR holds a level pin",
         tables: Tables::Listed(
             &[Entry::Boot(0)],
-            "bus id 00 name \"PCI   \"
+            b"bus id 00 name \"PCI   \"
 ioapic id 01 version 11 flags 01 address FEC00000
 ioint kind 00 flags 0000 bus 00 irq 00 dest 01 pin 10
 ",
         ),
-        script: "page = 0x9F
+        script: b"page = 0x9F
 
 [[cpu]]
 id = 0
@@ -124,7 +128,7 @@ words = [
 words = [\"high 0 16\", \"low 0 16\", \"high 0 16\"]
 ",
         status: 0,
-        text: "mpboot 1
+        text: b"mpboot 1
 entries 23
 0 cpu 00 iosel 0 31 : done
 1 cpu 00 iowin 0 00000000 : plain
@@ -160,12 +164,12 @@ end
         name: "a fall withdraws a message, and a mask holds it",
         tables: Tables::Listed(
             &[Entry::Boot(0)],
-            "bus id 00 name \"PCI   \"
+            b"bus id 00 name \"PCI   \"
 ioapic id 01 version 11 flags 01 address FEC00000
 ioint kind 00 flags 0000 bus 00 irq 00 dest 01 pin 10
 ",
         ),
-        script: "page = 0x9F
+        script: b"page = 0x9F
 
 [[cpu]]
 id = 0
@@ -181,7 +185,7 @@ words = [\"high 0 16\"]
 words = [\"low 0 16\", \"low 0 16\"]
 ",
         status: 0,
-        text: "mpboot 1
+        text: b"mpboot 1
 entries 21
 0 cpu 00 iosel 0 31 : done
 1 cpu 00 iowin 0 00000000 : plain

@@ -3,19 +3,23 @@
 use crate::boots::{Entry, Row, Tables};
 
 /// Messages, each as its entry says.
-pub const ROWS: &[Row] = &[
+pub fn rows() -> &'static [Row] {
+    ROWS
+}
+
+const ROWS: &[Row] = &[
     Row {
         name: "each delivery mode of a pin, and a logical destination",
         tables: Tables::Listed(
             &[Entry::Boot(0)],
-            "bus id 00 name \"ISA   \"
+            b"bus id 00 name \"ISA   \"
 ioapic id 01 version 11 flags 01 address FEC00000
 ioint kind 02 flags 0000 bus 00 irq 02 dest 01 pin 02
 ioint kind 01 flags 0000 bus 00 irq 04 dest 01 pin 04
 ioint kind 03 flags 0000 bus 00 irq 07 dest 01 pin 07
 ",
         ),
-        script: "page = 0x9F
+        script: b"page = 0x9F
 
 [[cpu]]
 id = 0
@@ -34,7 +38,7 @@ words = [
 ]
 ",
         status: 0,
-        text: "mpboot 1
+        text: b"mpboot 1
 entries 41
 0 cpu 00 iosel 0 15 : done
 1 cpu 00 iowin 0 00000000 : plain
@@ -88,13 +92,13 @@ end
         name: "the last message of a vector says edge or level",
         tables: Tables::Listed(
             &[Entry::Boot(0)],
-            "bus id 00 name \"PCI   \"
+            b"bus id 00 name \"PCI   \"
 ioapic id 01 version 11 flags 01 address FEC00000
 ioint kind 00 flags 0000 bus 00 irq 00 dest 01 pin 10
 ioint kind 00 flags 0000 bus 00 irq 04 dest 01 pin 11
 ",
         ),
-        script: "page = 0x9F
+        script: b"page = 0x9F
 
 [[cpu]]
 id = 0
@@ -104,7 +108,7 @@ words = [\"take\", \"ipi 0 0x31\", \"eoi\", \"take\", \"eoi\"]
 words = [\"high 0 16\", \"high 0 17\", \"low 0 16\"]
 ",
         status: 0,
-        text: "mpboot 1
+        text: b"mpboot 1
 entries 21
 0 cpu 00 iosel 0 31 : done
 1 cpu 00 iowin 0 00000000 : plain
@@ -138,13 +142,13 @@ end
         name: "a level EOI reaches both I/O APICs, also that of a merged message",
         tables: Tables::Listed(
             &[Entry::Boot(0)],
-            "bus id 00 name \"PCI   \"
+            b"bus id 00 name \"PCI   \"
 ioapic id 01 version 11 flags 01 address FEC00000
 ioapic id 02 version 11 flags 01 address FEC00000
 ioint kind 00 flags 0000 bus 00 irq 00 dest 01 pin 10
 ",
         ),
-        script: "page = 0x9F
+        script: b"page = 0x9F
 
 [[cpu]]
 id = 0
@@ -157,7 +161,7 @@ words = [\"high 0 16\"]
 words = [\"high 1 0\"]
 ",
         status: 0,
-        text: "mpboot 1
+        text: b"mpboot 1
 entries 20
 0 cpu 00 iosel 0 31 : done
 1 cpu 00 iowin 0 00000000 : plain

@@ -3,11 +3,15 @@
 use crate::boots::{Entry, Row, Tables};
 
 /// Processors that start, hear and take.
-pub const ROWS: &[Row] = &[
+pub fn rows() -> &'static [Row] {
+    ROWS
+}
+
+const ROWS: &[Row] = &[
     Row {
         name: "processors start one by one, an old one at its INIT, and messages reach none before",
         tables: Tables::Text(
-            "mptable 1
+            b"mptable 1
 pointer at 000F0000 table 000F0010 revision 04 features 0080000000
 header revision 04 oem \"MPTAB   \" product \"BOARD       \" oemtable 00000000 oemsize 0000 local FEE00000 reserved 00
 processor id 00 version 10 flags 03 signature 00000000 features 00000000 reserved 0000000000000000
@@ -16,7 +20,7 @@ processor id 02 version 10 flags 01 signature 00000000 features 00000000 reserve
 end
 ",
         ),
-        script: "page = 0x9F
+        script: b"page = 0x9F
 
 [[cpu]]
 id = 1
@@ -27,7 +31,7 @@ id = 2
 words = [\"take\"]
 ",
         status: 0,
-        text: "mpboot 1
+        text: b"mpboot 1
 entries 20
 0 cpu 00 imcr : done
 1 cpu 00 warm 9F : done
@@ -60,13 +64,13 @@ end
         name: "four processors hear a broadcast, and nobody hears a message to nobody",
         tables: Tables::Listed(
             &[Entry::Boot(0)],
-            "processor id 01 version 01 flags 01 signature 00000000 features 00000000 reserved 0000000000000000
+            b"processor id 01 version 01 flags 01 signature 00000000 features 00000000 reserved 0000000000000000
 processor id 02 version 01 flags 01 signature 00000000 features 00000000 reserved 0000000000000000
 processor id 09 version 01 flags 01 signature 00000000 features 00000000 reserved 0000000000000000
 ioapic id 03 version 11 flags 01 address FEC00000
 ",
         ),
-        script: "page = 0x9F
+        script: b"page = 0x9F
 
 [[cpu]]
 id = 0
@@ -84,7 +88,7 @@ words = [
 words = [\"pulse 0 0\", \"pulse 0 1\", \"pulse 0 2\"]
 ",
         status: 0,
-        text: "mpboot 1
+        text: b"mpboot 1
 entries 37
 0 cpu 00 warm 9F : done
 1 cpu 00 init 01 : 01=started.9F
@@ -135,8 +139,8 @@ end
     },
     Row {
         name: "classes hold vectors back",
-        tables: Tables::Listed(&[Entry::Boot(0)], ""),
-        script: "page = 0x9F
+        tables: Tables::Listed(&[Entry::Boot(0)], b""),
+        script: b"page = 0x9F
 
 [[cpu]]
 id = 0
@@ -149,7 +153,7 @@ words = [
 ]
 ",
         status: 0,
-        text: "mpboot 1
+        text: b"mpboot 1
 entries 22
 0 cpu 00 ipi 00 0F : 00=illegal
 1 cpu 00 ipi 00 10 : 00=set

@@ -6,7 +6,7 @@ use crate::boots::{Entry, Row, Tables};
 /// A processor, two I/O APICs, a PCI interrupt at INTIN 16 of the second, the same again, and an ISA interrupt at
 /// INTIN 1 of the first; IMCRP is set.
 const TWO_PINS: Tables = Tables::Text(
-    "mptable 1
+    b"mptable 1
 pointer at 000F0000 table 000F0010 revision 04 features 0080000000
 header revision 04 oem \"MPTAB   \" product \"BOARD       \" oemtable 00000000 oemsize 0000 local FEE00000 reserved 00
 processor id 03 version 10 flags 03 signature 00000000 features 00000000 reserved 0000000000000000
@@ -23,7 +23,7 @@ end
 
 /// A usual board: two processors, a PCI and an ISA bus, 17 interrupts.
 const USUAL: Tables = Tables::Text(
-    "mptable 1
+    b"mptable 1
 pointer at 000F0000 table 000F0010 revision 04 features 0000000000
 header revision 04 oem \"MPTAB   \" product \"BOARD       \" oemtable 00000000 oemsize 0000 local FEE00000 reserved 00
 processor id 00 version 14 flags 03 signature 00000600 features 00000201 reserved 0000000000000000
@@ -55,18 +55,22 @@ end
 );
 
 /// The default configurations: two processors, and the I/O interrupts of the standard.
-pub const DEFAULTS: &[Row] = &[
+pub fn defaults() -> &'static [Row] {
+    DEFAULTS
+}
+
+const DEFAULTS: &[Row] = &[
     Row {
         name: "1: ISA, older processors",
         tables: Tables::Text(
-            "mptable 1
+            b"mptable 1
 pointer at 0009FC00 table 00000000 revision 04 features 0100000000
 end
 ",
         ),
-        script: "page = 0x9F\n",
+        script: b"page = 0x9F\n",
         status: 0,
-        text: "mpboot 1
+        text: b"mpboot 1
 entries 69
 0 cpu 00 warm 9F : done
 1 io 0 sweep : done
@@ -75,14 +79,14 @@ entries 69
     Row {
         name: "2: EISA, older processors, without IRQ 0 and IRQ 13",
         tables: Tables::Text(
-            "mptable 1
+            b"mptable 1
 pointer at 0009FC00 table 00000000 revision 04 features 0200000000
 end
 ",
         ),
-        script: "page = 0x9F\n",
+        script: b"page = 0x9F\n",
         status: 0,
-        text: "mpboot 1
+        text: b"mpboot 1
 entries 61
 0 cpu 00 warm 9F : done
 1 io 0 sweep : done
@@ -91,14 +95,14 @@ entries 61
     Row {
         name: "3: EISA, older processors",
         tables: Tables::Text(
-            "mptable 1
+            b"mptable 1
 pointer at 0009FC00 table 00000000 revision 04 features 0300000000
 end
 ",
         ),
-        script: "page = 0x9F\n",
+        script: b"page = 0x9F\n",
         status: 0,
-        text: "mpboot 1
+        text: b"mpboot 1
 entries 69
 0 cpu 00 warm 9F : done
 1 io 0 sweep : done
@@ -107,14 +111,14 @@ entries 69
     Row {
         name: "4: MCA, older processors",
         tables: Tables::Text(
-            "mptable 1
+            b"mptable 1
 pointer at 0009FC00 table 00000000 revision 04 features 0400000000
 end
 ",
         ),
-        script: "page = 0x9F\n",
+        script: b"page = 0x9F\n",
         status: 0,
-        text: "mpboot 1
+        text: b"mpboot 1
 entries 69
 0 cpu 00 warm 9F : done
 1 io 0 sweep : done
@@ -123,14 +127,14 @@ entries 69
     Row {
         name: "5: ISA and PCI",
         tables: Tables::Text(
-            "mptable 1
+            b"mptable 1
 pointer at 0009FC00 table 00000000 revision 04 features 0500000000
 end
 ",
         ),
-        script: "page = 0x9F\n",
+        script: b"page = 0x9F\n",
         status: 0,
-        text: "mpboot 1
+        text: b"mpboot 1
 entries 72
 0 cpu 00 init 01 : 01=waiting
 1 io 0 sweep : done
@@ -139,14 +143,14 @@ entries 72
     Row {
         name: "6: EISA and PCI",
         tables: Tables::Text(
-            "mptable 1
+            b"mptable 1
 pointer at 0009FC00 table 00000000 revision 04 features 0600000000
 end
 ",
         ),
-        script: "page = 0x9F\n",
+        script: b"page = 0x9F\n",
         status: 0,
-        text: "mpboot 1
+        text: b"mpboot 1
 entries 72
 0 cpu 00 init 01 : 01=waiting
 1 io 0 sweep : done
@@ -155,14 +159,14 @@ entries 72
     Row {
         name: "7: MCA and PCI",
         tables: Tables::Text(
-            "mptable 1
+            b"mptable 1
 pointer at 0009FC00 table 00000000 revision 04 features 0700000000
 end
 ",
         ),
-        script: "page = 0x9F\n",
+        script: b"page = 0x9F\n",
         status: 0,
-        text: "mpboot 1
+        text: b"mpboot 1
 entries 72
 0 cpu 00 init 01 : 01=waiting
 1 io 0 sweep : done
@@ -171,14 +175,14 @@ entries 72
     Row {
         name: "5 with IMCRP",
         tables: Tables::Text(
-            "mptable 1
+            b"mptable 1
 pointer at 0009FC00 table 00000000 revision 04 features 0580000000
 end
 ",
         ),
-        script: "page = 0x9F\n",
+        script: b"page = 0x9F\n",
         status: 0,
-        text: "mpboot 1
+        text: b"mpboot 1
 entries 73
 0 cpu 00 imcr : done
 1 io 0 sweep : done
@@ -188,44 +192,48 @@ entries 73
     Row {
         name: "6, the second processor alone present",
         tables: Tables::Text(
-            "mptable 1
+            b"mptable 1
 pointer at 0009FC00 table 00000000 revision 04 features 0600000000
 end
 ",
         ),
-        script: "page = 0x9F
+        script: b"page = 0x9F
 present = [1]
 ",
         status: 11,
-        text: "mptab: board boot absent 00\n",
+        text: b"mptab: board boot absent 00\n",
     },
     Row {
         name: "6, the place 1",
         tables: Tables::Text(
-            "mptable 1
+            b"mptable 1
 pointer at 0009FC00 table 00000000 revision 04 features 0600000000
 end
 ",
         ),
-        script: "page = 0x9F
+        script: b"page = 0x9F
 device = [{ words = [\"high 1 0\"] }]
 ",
         status: 11,
-        text: "mptab: board no ioapic 1\n",
+        text: b"mptab: board no ioapic 1\n",
     },
 ];
 
 /// Who is started and how, and what is written into the I/O APICs.
-pub const WRITTEN: &[Row] = &[
+pub fn written() -> &'static [Row] {
+    WRITTEN
+}
+
+const WRITTEN: &[Row] = &[
     Row {
         name: "version 0Fh: no STARTUP",
         tables: Tables::Listed(
             &[Entry::Boot(0)],
-            "processor id 01 version 0F flags 01 signature 00000000 features 00000000 reserved 0000000000000000\n",
+            b"processor id 01 version 0F flags 01 signature 00000000 features 00000000 reserved 0000000000000000\n",
         ),
-        script: "page = 0x9F\n",
+        script: b"page = 0x9F\n",
         status: 0,
-        text: "mpboot 1
+        text: b"mpboot 1
 entries 4
 0 cpu 00 warm 9F : done
 1 cpu 00 init 01 : 01=started.9F
@@ -239,10 +247,10 @@ end
     },
     Row {
         name: "the boot processor last, a disabled one before it",
-        tables: Tables::Listed(&[Entry::Cpu(5), Entry::CpuOff(6), Entry::Boot(1)], ""),
-        script: "page = 0x9F\n",
+        tables: Tables::Listed(&[Entry::Cpu(5), Entry::CpuOff(6), Entry::Boot(1)], b""),
+        script: b"page = 0x9F\n",
         status: 0,
-        text: "mpboot 1
+        text: b"mpboot 1
 entries 7
 0 cpu 01 init 05 : 05=waiting
 1 cpu 01 pause 10000 : done
@@ -259,10 +267,10 @@ end
     },
     Row {
         name: "two with the boot bit: the first is the boot processor",
-        tables: Tables::Listed(&[Entry::Boot(2), Entry::Boot(1)], ""),
-        script: "page = 0x9F\n",
+        tables: Tables::Listed(&[Entry::Boot(2), Entry::Boot(1)], b""),
+        script: b"page = 0x9F\n",
         status: 0,
-        text: "mpboot 1
+        text: b"mpboot 1
 entries 7
 0 cpu 02 init 01 : 01=waiting
 1 cpu 02 pause 10000 : done
@@ -280,9 +288,9 @@ end
     Row {
         name: "IMCRP; pins of two I/O APICs, one named twice, in the order of their entries, high word first",
         tables: TWO_PINS,
-        script: "page = 0x9F\n",
+        script: b"page = 0x9F\n",
         status: 0,
-        text: "mpboot 1
+        text: b"mpboot 1
 entries 11
 0 cpu 03 imcr : done
 1 io 0 sweep : done
@@ -306,15 +314,15 @@ end
         name: "an EISA interrupt that the script's ELCR makes level",
         tables: Tables::Listed(
             &[Entry::Boot(0), Entry::Io(1)],
-            "bus id 00 name \"EISA  \"
+            b"bus id 00 name \"EISA  \"
 ioint kind 00 flags 0000 bus 00 irq 01 dest 01 pin 01
 ",
         ),
-        script: "page = 0x9F
+        script: b"page = 0x9F
 elcr = 2
 ",
         status: 0,
-        text: "mpboot 1
+        text: b"mpboot 1
 entries 5
 0 cpu 00 iosel 0 13 : done
 1 io 0 sweep : done
@@ -330,13 +338,17 @@ end
 ];
 
 /// A usual board.
-pub const OF_USUAL: &[Row] = &[
+pub fn of_usual() -> &'static [Row] {
+    OF_USUAL
+}
+
+const OF_USUAL: &[Row] = &[
     Row {
         name: "both processors present",
         tables: USUAL,
-        script: "page = 0x9F\n",
+        script: b"page = 0x9F\n",
         status: 0,
-        text: "mpboot 1
+        text: b"mpboot 1
 entries 76
 0 cpu 00 init 01 : 01=waiting
 1 io 0 sweep : done
@@ -346,10 +358,10 @@ entries 76
     Row {
         name: "the boot processor absent",
         tables: USUAL,
-        script: "page = 0x9F
+        script: b"page = 0x9F
 present = [1]
 ",
         status: 11,
-        text: "mptab: board boot absent 00\n",
+        text: b"mptab: board boot absent 00\n",
     },
 ];

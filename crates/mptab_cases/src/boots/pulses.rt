@@ -3,19 +3,23 @@
 use crate::boots::{Entry, Row, Tables};
 
 /// Pulses, and registers as they were written.
-pub const ROWS: &[Row] = &[
+pub fn rows() -> &'static [Row] {
+    ROWS
+}
+
+const ROWS: &[Row] = &[
     Row {
         name: "pulses at masked, level and due pins",
         tables: Tables::Listed(
             &[Entry::Boot(0)],
-            "bus id 00 name \"ISA   \"
+            b"bus id 00 name \"ISA   \"
 bus id 01 name \"PCI   \"
 ioapic id 01 version 11 flags 01 address FEC00000
 ioint kind 00 flags 0000 bus 00 irq 01 dest 01 pin 01
 ioint kind 00 flags 0000 bus 01 irq 00 dest 01 pin 10
 ",
         ),
-        script: "page = 0x9F
+        script: b"page = 0x9F
 
 [[cpu]]
 id = 0
@@ -31,7 +35,7 @@ words = [\"pulse 0 1\", \"pulse 0 16\", \"pulse 0 2\", \"pulse 0 1\"]
 words = [\"pulse 0 1\"]
 ",
         status: 0,
-        text: "mpboot 1
+        text: b"mpboot 1
 entries 24
 0 cpu 00 iosel 0 13 : done
 1 cpu 00 iowin 0 00000000 : plain
@@ -69,10 +73,10 @@ end
         name: "every kind of register is read and written",
         tables: Tables::Listed(
             &[Entry::Boot(0)],
-            "ioapic id 11 version 11 flags 01 address FEC00000
+            b"ioapic id 11 version 11 flags 01 address FEC00000
 ",
         ),
-        script: "page = 0x9F
+        script: b"page = 0x9F
 
 [[cpu]]
 id = 0
@@ -91,7 +95,7 @@ words = [
 ]
 ",
         status: 0,
-        text: "mpboot 1
+        text: b"mpboot 1
 entries 34
 0 cpu 00 ioread 0 : read.01000000
 1 io 0 sweep : done
@@ -137,12 +141,12 @@ end
         name: "an I/O APIC collects before it sends, and the line of an edge pin is nothing to it",
         tables: Tables::Listed(
             &[Entry::Boot(0)],
-            "bus id 00 name \"ISA   \"
+            b"bus id 00 name \"ISA   \"
 ioapic id 01 version 11 flags 01 address FEC00000
 ioint kind 00 flags 0000 bus 00 irq 01 dest 01 pin 01
 ",
         ),
-        script: "page = 0x9F
+        script: b"page = 0x9F
 
 [[cpu]]
 id = 0
@@ -155,7 +159,7 @@ words = [\"pulse 0 1\", \"pulse 0 1\"]
 words = [\"high 0 1\", \"low 0 1\"]
 ",
         status: 0,
-        text: "mpboot 1
+        text: b"mpboot 1
 entries 16
 0 cpu 00 iosel 0 13 : done
 1 cpu 00 iowin 0 00000000 : plain

@@ -5,19 +5,19 @@ use crate::boots::{Entry, Tables};
 /// One processor, and an ISA source at INTIN 1 of one I/O APIC.
 pub const ONE_PIN: Tables = Tables::Listed(
     &[Entry::Boot(0), Entry::Io(1)],
-    "bus id 00 name \"ISA   \"
+    b"bus id 00 name \"ISA   \"
 ioint kind 00 flags 0000 bus 00 irq 01 dest 01 pin 01
 ",
 );
 
 /// Three devices that pulse that pin once each, and a processor that takes one interrupt and ends it.
-pub const THREE_PULSES_SCRIPT: &str = "page = 0x9F
+pub const THREE_PULSES_SCRIPT: &[u8] = b"page = 0x9F
 cpu = [{ id = 0, words = [\"take\", \"eoi\"] }]
 device = [{ words = [\"pulse 0 1\"] }, { words = [\"pulse 0 1\"] }, { words = [\"pulse 0 1\"] }]
 ";
 
 /// What three devices make of one pin, taken and ended.
-pub const THREE_PULSES: &str = "mpboot 1
+pub const THREE_PULSES: &[u8] = b"mpboot 1
 entries 15
 0 cpu 00 iosel 0 13 : done
 1 cpu 00 iowin 0 00000000 : plain

@@ -7,19 +7,23 @@ use crate::boots::{Entry, Row, Tables};
 /// One processor, and a PCI source at INTIN 16 of one I/O APIC: level, low.
 const LEVEL_PIN: Tables = Tables::Listed(
     &[Entry::Boot(0), Entry::Io(1)],
-    "bus id 00 name \"PCI   \"
+    b"bus id 00 name \"PCI   \"
 ioint kind 00 flags 0000 bus 00 irq 00 dest 01 pin 10
 ",
 );
 
 /// Rows that each command answers with the same report, since one agent alone steps.
-pub const BY_BOTH: &[Row] = &[
+pub fn by_both() -> &'static [Row] {
+    BY_BOTH
+}
+
+const BY_BOTH: &[Row] = &[
     Row {
         name: "two processors: the second is started",
-        tables: Tables::Listed(&[Entry::Boot(0), Entry::Cpu(1)], ""),
-        script: "page = 0x9F\n",
+        tables: Tables::Listed(&[Entry::Boot(0), Entry::Cpu(1)], b""),
+        script: b"page = 0x9F\n",
         status: 0,
-        text: "mpboot 1
+        text: b"mpboot 1
 entries 7
 0 cpu 00 init 01 : 01=waiting
 1 cpu 00 pause 10000 : done
@@ -38,13 +42,13 @@ end
         name: "an older processor is started by the warm-reset vector, an absent one answers nothing",
         tables: Tables::Listed(
             &[Entry::Boot(0)],
-            "processor id 01 version 01 flags 01 signature 00000000 features 00000000 reserved 0000000000000000
+            b"processor id 01 version 01 flags 01 signature 00000000 features 00000000 reserved 0000000000000000
 processor id 02 version 10 flags 01 signature 00000000 features 00000000 reserved 0000000000000000
 ",
         ),
-        script: "page = 0x9F\npresent = [0, 1]\n",
+        script: b"page = 0x9F\npresent = [0, 1]\n",
         status: 0,
-        text: "mpboot 1
+        text: b"mpboot 1
 entries 11
 0 cpu 00 warm 9F : done
 1 cpu 00 init 01 : 01=started.9F
@@ -65,8 +69,12 @@ end
     },
 ];
 
-/// Rows whose report is that of the round robin.
-pub const BY_TURNS: &[Row] = &[
+/// Rows of edge and level pins, whose report is that of the round robin.
+pub fn by_turns() -> &'static [Row] {
+    BY_TURNS
+}
+
+const BY_TURNS: &[Row] = &[
     Row {
         name: "three devices pulse one pin, which is sent once",
         tables: ONE_PIN,
@@ -77,7 +85,7 @@ pub const BY_TURNS: &[Row] = &[
     Row {
         name: "the processor waits at a take without a vector",
         tables: ONE_PIN,
-        script: "page = 0x9F
+        script: b"page = 0x9F
 cpu = [{ id = 0, words = [\"take\", \"eoi\", \"take\"] }]
 device = [{ words = [\"pulse 0 1\"] }, { words = [\"pulse 0 1\"] }, { words = [\"pulse 0 1\"] }]
 ",
@@ -87,12 +95,12 @@ device = [{ words = [\"pulse 0 1\"] }, { words = [\"pulse 0 1\"] }, { words = [\
     Row {
         name: "the version register is read, and the processor polls before the pin is sent",
         tables: ONE_PIN,
-        script: "page = 0x9F
+        script: b"page = 0x9F
 cpu = [{ id = 0, words = [\"iosel 0 1\", \"ioread 0\", \"poll\"] }]
 device = [{ words = [\"pulse 0 1\"] }, { words = [\"pulse 0 1\"] }, { words = [\"pulse 0 1\"] }]
 ",
         status: 0,
-        text: "mpboot 1
+        text: b"mpboot 1
 entries 16
 0 cpu 00 iosel 0 13 : done
 1 cpu 00 iowin 0 00000000 : plain
@@ -122,12 +130,12 @@ end
     Row {
         name: "a level pin that stays high is sent again after its end of interrupt",
         tables: LEVEL_PIN,
-        script: "page = 0x9F
+        script: b"page = 0x9F
 cpu = [{ id = 0, words = [\"take\", \"eoi\"] }]
 device = [{ words = [\"high 0 16\"] }]
 ",
         status: 0,
-        text: "mpboot 1
+        text: b"mpboot 1
 entries 12
 0 cpu 00 iosel 0 31 : done
 1 cpu 00 iowin 0 00000000 : plain
@@ -151,12 +159,12 @@ end
     Row {
         name: "a level pin that fell is sent once",
         tables: LEVEL_PIN,
-        script: "page = 0x9F
+        script: b"page = 0x9F
 cpu = [{ id = 0, words = [\"take\", \"eoi\"] }]
 device = [{ words = [\"high 0 16\", \"low 0 16\"] }]
 ",
         status: 0,
-        text: "mpboot 1
+        text: b"mpboot 1
 entries 12
 0 cpu 00 iosel 0 31 : done
 1 cpu 00 iowin 0 00000000 : plain
@@ -177,14 +185,22 @@ state io 0 line 000000 due 000000 remote 000000
 end
 ",
     },
+];
+
+/// Rows of messages to logical destinations and of lowest priority, whose report is that of the round robin.
+pub fn by_turns_to_logical_ids() -> &'static [Row] {
+    BY_TURNS_TO_LOGICAL_IDS
+}
+
+const BY_TURNS_TO_LOGICAL_IDS: &[Row] = &[
     Row {
         name: "a message to a logical destination in the flat model: its own bit, and another",
-        tables: Tables::Listed(&[Entry::Boot(0), Entry::Cpu(1)], ""),
-        script: "page = 0x9F
+        tables: Tables::Listed(&[Entry::Boot(0), Entry::Cpu(1)], b""),
+        script: b"page = 0x9F
 cpu = [{ id = 0, words = [\"ldr 1\", \"ipl 1 0x40\", \"ipl 2 0x40\", \"take\"] }]
 ",
         status: 0,
-        text: "mpboot 1
+        text: b"mpboot 1
 entries 11
 0 cpu 00 init 01 : 01=waiting
 1 cpu 00 pause 10000 : done
@@ -205,13 +221,13 @@ end
     },
     Row {
         name: "lowest priority goes to the processor of the least priority",
-        tables: Tables::Listed(&[Entry::Boot(0), Entry::Cpu(1), Entry::Io(2)], ""),
-        script: "page = 0x9F
+        tables: Tables::Listed(&[Entry::Boot(0), Entry::Cpu(1), Entry::Io(2)], b""),
+        script: b"page = 0x9F
 cpu = [{ id = 0, words = [\"tpr 32\", \"iosel 0 19\", \"iowin 0 0x0F000000\", \"iosel 0 18\", \"iowin 0 0x8121\"] }]
 device = [{ words = [\"high 0 1\"] }]
 ",
         status: 0,
-        text: "mpboot 1
+        text: b"mpboot 1
 entries 17
 0 cpu 00 init 01 : 01=waiting
 1 cpu 00 pause 10000 : done
@@ -240,13 +256,13 @@ end
     },
     Row {
         name: "lowest priority goes to the least id where the priorities are the same",
-        tables: Tables::Listed(&[Entry::Boot(0), Entry::Cpu(1), Entry::Io(2)], ""),
-        script: "page = 0x9F
+        tables: Tables::Listed(&[Entry::Boot(0), Entry::Cpu(1), Entry::Io(2)], b""),
+        script: b"page = 0x9F
 cpu = [{ id = 0, words = [\"iosel 0 19\", \"iowin 0 0x0F000000\", \"iosel 0 18\", \"iowin 0 0x8121\"] }]
 device = [{ words = [\"high 0 1\"] }]
 ",
         status: 0,
-        text: "mpboot 1
+        text: b"mpboot 1
 entries 16
 0 cpu 00 init 01 : 01=waiting
 1 cpu 00 pause 10000 : done
@@ -274,12 +290,12 @@ end
     },
     Row {
         name: "a message to two processors of a cluster",
-        tables: Tables::Listed(&[Entry::Boot(0), Entry::Cpu(1)], ""),
-        script: "page = 0x9F
+        tables: Tables::Listed(&[Entry::Boot(0), Entry::Cpu(1)], b""),
+        script: b"page = 0x9F
 cpu = [{ id = 0, words = [\"dfr 0\", \"ldr 0x11\", \"ipl 0x13 0x40\", \"ipl 0x23 0x40\"] }, { id = 1, words = [\"dfr 0\", \"ldr 0x12\"] }]
 ",
         status: 0,
-        text: "mpboot 1
+        text: b"mpboot 1
 entries 13
 0 cpu 00 init 01 : 01=waiting
 1 cpu 00 pause 10000 : done

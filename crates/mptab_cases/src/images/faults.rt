@@ -9,7 +9,11 @@ const SMALL: usize = 0x550;
 const AT: Piece = Piece::Table(0x510);
 
 /// Each of the sixteen faults.
-pub const REASONS: &[Row] = &[
+pub fn reasons() -> &'static [Row] {
+    REASONS
+}
+
+const REASONS: &[Row] = &[
     Row {
         name: "the pointer's revision is 2",
         size: SMALL,
@@ -257,7 +261,11 @@ pub const REASONS: &[Row] = &[
 ];
 
 /// Images with two faults.
-pub const PAIRS: &[Row] = &[
+pub fn pairs() -> &'static [Row] {
+    PAIRS
+}
+
+const PAIRS: &[Row] = &[
     Row {
         name: "pointer: revision before default",
         size: SMALL,
@@ -585,7 +593,11 @@ end
 ];
 
 /// Numbers of default configurations.
-pub const DEFAULTS: &[Row] = &[
+pub fn defaults() -> &'static [Row] {
+    DEFAULTS
+}
+
+const DEFAULTS: &[Row] = &[
     Row {
         name: "default configuration 0 and no address",
         size: SMALL,

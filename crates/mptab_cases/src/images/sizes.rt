@@ -7,7 +7,11 @@ use crate::images::{Piece, Row, SMALL_POINTER as POINTER, WORD};
 const AT: Piece = Piece::Table(0x510);
 
 /// A size on both sides of each cut.
-pub const SIZES: &[Row] = &[
+pub fn sizes() -> &'static [Row] {
+    SIZES
+}
+
+const SIZES: &[Row] = &[
     Row {
         name: "the EBDA word is whole: it lies in the pointer itself",
         size: 1040,

@@ -9,7 +9,11 @@ const MIB: usize = 0x100000;
 const AT: Piece = Piece::Table(0xF0010);
 
 /// Images whose listings were worked out by hand.
-pub const WORKED: &[Row] = &[
+pub fn worked() -> &'static [Row] {
+    WORKED
+}
+
+const WORKED: &[Row] = &[
     Row {
         name: "a board with one processor",
         size: MIB,
@@ -226,7 +230,11 @@ end
 ];
 
 /// Images that were made to mislead.
-pub const HOSTILE: &[Row] = &[
+pub fn hostile() -> &'static [Row] {
+    HOSTILE
+}
+
+const HOSTILE: &[Row] = &[
     Row {
         name: "a pointer at the last place",
         size: MIB,

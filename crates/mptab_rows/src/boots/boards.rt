@@ -2,22 +2,16 @@
 //! processors and I/O APICs a board has, at each limit on both sides.
 
 use crate::boots::harness::are_answered;
-use mptab_cases::boots::boards::{IDS, LIMITS, PLACES, PRESENT};
-use mptab_cases::boots::{BOTH, Row};
+use mptab_cases::boots::BOTH;
+use mptab_cases::boots::boards::{io_apic_ids, limits, places, present, processor_ids, wide_ids};
 use std::test::Fail;
-
-/// All of them.
-const CAUSES: &[(&str, &[Row])] = &[
-    ("ids", IDS),
-    ("present processors", PRESENT),
-    ("places", PLACES),
-    ("limits", LIMITS),
-];
 
 #[test]
 fn causes_alone(rt: HostRuntime) -> Result<(), Fail> {
-    for (name, rows) in CAUSES {
-        are_answered(&rt, rt.alloc(), BOTH, name, rows)?;
-    }
-    Ok(())
+    are_answered(&rt, rt.alloc(), BOTH, "ids of processors", processor_ids())?;
+    are_answered(&rt, rt.alloc(), BOTH, "ids of I/O APICs", io_apic_ids())?;
+    are_answered(&rt, rt.alloc(), BOTH, "wide ids", wide_ids())?;
+    are_answered(&rt, rt.alloc(), BOTH, "present processors", present())?;
+    are_answered(&rt, rt.alloc(), BOTH, "places", places())?;
+    are_answered(&rt, rt.alloc(), BOTH, "limits", limits())
 }

@@ -1,7 +1,7 @@
 //! Drills: the summaries of three, and words that are none.
 
-use crate::boots::harness::{Answer, answer_of};
-use crate::harness::same;
+use crate::boots::harness::answer_of;
+use crate::harness::{Answer, same};
 use mpt_base::MemShelf;
 use mptab_cases::boots::{Case, USAGE};
 use std::alloc::Global;
@@ -14,7 +14,7 @@ const DRILLS: &[Case] = &[
     Case {
         words: &["drill", "0"],
         status: 0,
-        text: "drill 0
+        text: b"drill 0
 processors 2 started 1
 ioapics 1 routes 24
 entries 205
@@ -26,7 +26,7 @@ end
     Case {
         words: &["drill", "6"],
         status: 0,
-        text: "drill 6
+        text: b"drill 6
 processors 8 started 7
 ioapics 3 routes 72
 entries 659
@@ -38,7 +38,7 @@ end
     Case {
         words: &["drill", "9999"],
         status: 0,
-        text: "drill 9999
+        text: b"drill 9999
 processors 5 started 4
 ioapics 4 routes 96
 entries 4744
@@ -86,7 +86,8 @@ fn is_none<R: Threads + Wait + Sync>(rt: &R, alloc: Global, words: &[&str]) -> R
 fn drills(rt: HostRuntime) -> Result<(), Fail> {
     for case in DRILLS {
         let answer = answer(&rt, rt.alloc(), case.words, 0)?;
-        same(&rt, case.text, answer.is(case.status, case.text), true);
+        let right = answer.is(case.status, case.text);
+        same(&rt, "the answer", (case.words, right), (case.words, true));
     }
     Ok(())
 }

@@ -1,9 +1,9 @@
 //! Words that are no form, files that aren't there, and calls of shelf and sink that fail one by one.
 
-use crate::boots::harness::{Answer, answer_of, answer_to, script_of, shelf_of};
-use crate::harness::same;
+use crate::boots::harness::{answer_of, answer_to, script_of, shelf_of};
+use crate::harness::{Answer, same};
 use mpt_base::MemShelf;
-use mptab_cases::boots::failing::WORDS;
+use mptab_cases::boots::failing::words;
 use mptab_cases::boots::{BOTH, Case, IMAGE, NOTHING, ONE, REPORT, SCRIPT};
 use std::alloc::Global;
 use std::sync::Wait;
@@ -47,9 +47,9 @@ fn is_answered<R: Threads + Wait + Sync>(
 #[test]
 fn board_words(rt: HostRuntime) -> Result<(), Fail> {
     let mut shelf = shelf_of_words(rt.alloc())?;
-    for case in WORDS {
+    for case in words() {
         let right = is_answered(&rt, rt.alloc(), case, &mut shelf)?;
-        same(&rt, case.text, right, true);
+        same(&rt, "the answer", (case.words, right), (case.words, true));
     }
     Ok(())
 }
@@ -92,12 +92,18 @@ fn long_answer<R: Threads + Wait + Sync>(
     with_failures(rt, alloc, &[command, IMAGE, SCRIPT], &mut shelf, call, put)
 }
 
+/// Writes the line of such an entry.
+fn push_pause(alloc: Global, text: &mut String, k: u32) -> Result<(), Fail> {
+    let line = format!(in alloc; "{k} cpu 00 pause 1 : done\n")?;
+    text.push_str(line.as_str())?;
+    Ok(())
+}
+
 /// Its report, which is longer than a piece of 4,096 bytes and no longer than two.
 fn long_report(alloc: Global) -> Result<String, Fail> {
     let mut text = String::from_str(alloc, "mpboot 1\nentries 200\n")?;
     for k in 0..200 {
-        let line = format!(in alloc; "{k} cpu 00 pause 1 : done\n")?;
-        text.push_str(line.as_str())?;
+        push_pause(alloc, &mut text, k)?;
     }
     text.push_str("state imcr none\nstate cpu 00 first tpr 00 irr - isr - tmr -\nend\n")?;
     Ok(text)
@@ -129,7 +135,7 @@ fn is_unread<R: Threads + Wait + Sync>(
     line: &str,
 ) -> Result<bool, Fail> {
     let answer = long_answer(rt, alloc, command, call, 0)?;
-    Ok(answer.is(4, line))
+    Ok(answer.is(4, line.as_bytes()))
 }
 
 /// The first call of the shelf whose failure has another answer.
@@ -167,24 +173,36 @@ fn is_replayed<R: Threads + Wait + Sync>(
     status: u8,
     text: &str,
 ) -> Result<bool, Fail> {
-    let mut shelf = shelf_beside(alloc, REPORT, NOTHING.as_bytes())?;
+    let mut shelf = shelf_beside(alloc, REPORT, NOTHING)?;
     let answer = with_failures(rt, alloc, REPLAY, &mut shelf, failing.0, failing.1)?;
-    Ok(answer.is(status, text))
+    Ok(answer.is(status, text.as_bytes()))
 }
 
 const REPORT_UNREAD: &str = "mptab: cannot read report.txt\n";
 
+/// The report's size and its bytes.
+const OF_REPORT: &[(u64, &str)] = &[(9, REPORT_UNREAD), (10, REPORT_UNREAD)];
+
+/// The first of these calls of the shelf whose failure a replay answers by another line.
+fn first_unlike<R: Threads + Wait + Sync>(
+    rt: &R,
+    alloc: Global,
+    calls: &[(u64, &str)],
+) -> Result<Option<u64>, Fail> {
+    for (call, line) in calls {
+        if !is_replayed(rt, alloc, (*call, 0), 4, line)? {
+            return Ok(Some(*call));
+        }
+    }
+    Ok(None)
+}
+
 #[test]
 fn calls_of_the_shelf_by_a_replay(rt: HostRuntime) -> Result<(), Fail> {
-    for (call, line) in CALLS {
-        let right = is_replayed(&rt, rt.alloc(), (*call, 0), 4, line)?;
-        same(&rt, line, (*call, right), (*call, true));
-    }
-    // The report's size and its bytes.
-    for call in [9, 10] {
-        let right = is_replayed(&rt, rt.alloc(), (call, 0), 4, REPORT_UNREAD)?;
-        same(&rt, REPORT_UNREAD, (call, right), (call, true));
-    }
+    let wrong = first_unlike(&rt, rt.alloc(), CALLS)?;
+    same(&rt, "calls that a boot makes too", wrong, None);
+    let wrong = first_unlike(&rt, rt.alloc(), OF_REPORT)?;
+    same(&rt, "calls of the report", wrong, None);
     let right = is_replayed(&rt, rt.alloc(), (11, 0), 0, "replay legal\n")?;
     same(&rt, "there are ten calls", right, true);
     Ok(())
@@ -257,7 +275,7 @@ fn is_right_or_refused<R: Threads + Wait + Sync>(
     status: u8,
 ) -> Result<bool, Fail> {
     let answer = long_answer(rt, alloc, "trace", call, put)?;
-    Ok(answer.status == status || answer.is(9, "mptab: no memory\n"))
+    Ok(answer.status == status || answer.is(9, b"mptab: no memory\n"))
 }
 
 /// For runs outside the gate, in each of which one allocation fails: this test alone accepts status 9. Where its

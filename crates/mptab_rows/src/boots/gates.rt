@@ -1,8 +1,8 @@
 //! Boots by threads through a gate: each agent has a thread of its own, and what is printed is the history of
 //! the threads. It holds what no clause says.
 
-use crate::boots::harness::{Answer, shelf_of, sink_of};
-use crate::harness::{same, words_of};
+use crate::boots::harness::shelf_of;
+use crate::harness::{Answer, same, sink_of, words_of};
 use mpb_spec::Agent;
 use mpt_base::MemShelf;
 use mptab_calls::{Gate, run_with};
@@ -143,7 +143,7 @@ fn booted<R: Threads + Wait + Sync, G: Gate + Sync>(
     alloc: Global,
     gate: &G,
 ) -> Result<Answer, Fail> {
-    let mut shelf = shelf_of(alloc, &ONE_PIN, THREE_PULSES_SCRIPT.as_bytes())?;
+    let mut shelf = shelf_of(alloc, &ONE_PIN, THREE_PULSES_SCRIPT)?;
     booted_over(rt, alloc, &mut shelf, gate)
 }
 

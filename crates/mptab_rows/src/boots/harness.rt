@@ -1,8 +1,10 @@
 //! What every theme stands on: a row, the image of its tables, and the answer of the top call.
 
 use crate::boots::tables::listing_of;
-use crate::harness::{answer_of as still_answer_of, same, words_of};
-use mpt_base::{MemShelf, MemSink};
+use crate::harness::{
+    Answer, answer_of as still_answer_of, image_of_listing, same, sink_of, words_of,
+};
+use mpt_base::MemShelf;
 use mptab_calls::run;
 use mptab_cases::boots::{IMAGE, REPORT, Row, SCRIPT, Tables};
 use std::alloc::Global;
@@ -10,44 +12,6 @@ use std::process::Abort;
 use std::sync::Wait;
 use std::test::Fail;
 use std::thread::Threads;
-
-/// The room of a sink: an image of 1 MiB, more than any report of these rows.
-const ROOM: usize = 0x100000;
-
-/// A status, and what was written.
-#[derive(Drop)]
-pub(crate) struct Answer {
-    pub(crate) status: u8,
-    pub(crate) text: Vec<u8>,
-}
-
-impl Answer {
-    /// This status, with what the sink holds.
-    pub(crate) fn with(alloc: Global, status: u8, sink: &MemSink) -> Result<Answer, Fail> {
-        let text = Vec::from_slice(alloc, sink.bytes())?;
-        Ok(Answer { status, text })
-    }
-
-    /// Whether it is this status with this text; where the text is no whole report, with a whole report that
-    /// begins with it.
-    pub(crate) fn is(&self, status: u8, text: &str) -> bool {
-        let written = self.text.as_slice();
-        if self.status != status {
-            false
-        } else if text.starts_with("mpboot 1\n") && !text.ends_with("\nend\n") {
-            written.starts_with(text.as_bytes()) && written.ends_with(b"\nend\n")
-        } else {
-            written == text.as_bytes()
-        }
-    }
-}
-
-/// A sink whose put of this number fails; 0 is none.
-pub(crate) fn sink_of(alloc: Global, failing: u64) -> Result<MemSink, Fail> {
-    let mut sink = MemSink::new(alloc, ROOM)?;
-    sink.fail(failing)?;
-    Ok(sink)
-}
 
 /// The answer to these words. The put of this number fails; 0 is none.
 pub(crate) fn answer_of<R: Threads + Wait + Sync>(
@@ -63,39 +27,24 @@ pub(crate) fn answer_of<R: Threads + Wait + Sync>(
     Answer::with(alloc, status, &sink)
 }
 
-/// The answer to these words by the call that starts no thread.
-fn still_answer(alloc: Global, words: &[&str], shelf: &mut MemShelf) -> Result<Answer, Fail> {
-    let answer = still_answer_of(alloc, words, shelf, 0)?;
-    Ok(Answer {
-        status: answer.status,
-        text: answer.text,
-    })
-}
-
-/// The image that `build` makes of this listing.
-fn built(alloc: Global, listing: &str) -> Result<Vec<u8>, Fail> {
-    let mut shelf = MemShelf::new(alloc);
-    shelf.add("list", listing.as_bytes())?;
-    let image = still_answer(alloc, &["build", "list"], &mut shelf)?;
-    if image.status != 0 {
-        return Err("the tables of a row aren't built".into());
-    }
-    Ok(image.text)
-}
-
 /// The image of these tables.
 fn image_of(alloc: Global, tables: &Tables) -> Result<Vec<u8>, Fail> {
     let listing = listing_of(alloc, tables)?;
-    built(alloc, listing.as_str())
+    image_of_listing(alloc, listing.as_slice())
+}
+
+/// A shelf with this script and this image.
+fn shelf_with(alloc: Global, image: &[u8], script: &[u8]) -> Result<MemShelf, Fail> {
+    let mut shelf = MemShelf::new(alloc);
+    shelf.add(IMAGE, image)?;
+    shelf.add(SCRIPT, script)?;
+    Ok(shelf)
 }
 
 /// A shelf with this script and with the image of these tables.
 pub(crate) fn shelf_of(alloc: Global, tables: &Tables, script: &[u8]) -> Result<MemShelf, Fail> {
     let image = image_of(alloc, tables)?;
-    let mut shelf = MemShelf::new(alloc);
-    shelf.add(IMAGE, image.as_slice())?;
-    shelf.add(SCRIPT, script)?;
-    Ok(shelf)
+    shelf_with(alloc, image.as_slice(), script)
 }
 
 /// The answer of a command to tables and a script, where no call fails.
@@ -119,7 +68,7 @@ fn is_legal<R: Threads + Wait + Sync>(
 ) -> Result<bool, Fail> {
     shelf.add(REPORT, answer.text.as_slice())?;
     let verdict = answer_of(rt, alloc, &["replay", IMAGE, SCRIPT, REPORT], shelf, 0)?;
-    Ok(answer.status == 0 && verdict.is(0, "replay legal\n"))
+    Ok(answer.status == 0 && verdict.is(0, b"replay legal\n"))
 }
 
 /// Whether a boot over the image and the script on the shelf ends in a report that is judged legal.
@@ -141,7 +90,7 @@ fn answers_over<R: Threads + Wait + Sync>(
     shelf: &mut MemShelf,
 ) -> Result<bool, Fail> {
     let answer = answer_of(rt, alloc, &[command, IMAGE, SCRIPT], shelf, 0)?;
-    Ok(answer.is(row.status, row.text))
+    Ok(answer.reports(row.status, row.text))
 }
 
 /// Whether `boot` answers as the row says, word for word.
@@ -150,7 +99,7 @@ pub(crate) fn boots_so<R: Threads + Wait + Sync>(
     alloc: Global,
     row: &Row,
 ) -> Result<bool, Fail> {
-    let mut shelf = shelf_of(alloc, &row.tables, row.script.as_bytes())?;
+    let mut shelf = shelf_of(alloc, &row.tables, row.script)?;
     answers_over(rt, alloc, "boot", row, &mut shelf)
 }
 
@@ -161,7 +110,7 @@ fn answers<R: Threads + Wait + Sync>(
     command: &str,
     row: &Row,
 ) -> Result<bool, Fail> {
-    let mut shelf = shelf_of(alloc, &row.tables, row.script.as_bytes())?;
+    let mut shelf = shelf_of(alloc, &row.tables, row.script)?;
     if command == "boot" && row.status == 0 {
         boots_legally(rt, alloc, &mut shelf)
     } else {
@@ -214,9 +163,9 @@ pub(crate) fn are_answered<R: Threads + Wait + Sync + Abort>(
 
 /// Whether `trace` answers as the row says, by the call that starts no thread.
 fn is_traced(alloc: Global, row: &Row) -> Result<bool, Fail> {
-    let mut shelf = shelf_of(alloc, &row.tables, row.script.as_bytes())?;
-    let answer = still_answer(alloc, &["trace", IMAGE, SCRIPT], &mut shelf)?;
-    Ok(answer.is(row.status, row.text))
+    let mut shelf = shelf_of(alloc, &row.tables, row.script)?;
+    let answer = still_answer_of(alloc, &["trace", IMAGE, SCRIPT], &mut shelf, 0)?;
+    Ok(answer.reports(row.status, row.text))
 }
 
 /// The name of the first row to which `trace` has another answer.
@@ -236,6 +185,23 @@ pub(crate) fn are_traced(rt: &impl Abort, alloc: Global, rows: &[Row]) -> Result
     Ok(())
 }
 
+/// Writes this word so many times.
+fn push_words(text: &mut Vec<u8>, word: &str, times: usize) -> Result<(), Fail> {
+    for _ in 0..times {
+        text.extend_from_slice(word.as_bytes())?;
+    }
+    Ok(())
+}
+
+/// Ends the words, and fills a text up to a size by a comment.
+fn push_comment(text: &mut Vec<u8>, size: usize) -> Result<(), Fail> {
+    text.extend_from_slice(b"]\n#")?;
+    for _ in text.len()..size {
+        text.push(b' ')?;
+    }
+    Ok(())
+}
+
 /// The script with this word so many times for processor 0, and a comment that fills it up to a size.
 pub(crate) fn script_of(
     alloc: Global,
@@ -244,11 +210,7 @@ pub(crate) fn script_of(
     size: usize,
 ) -> Result<Vec<u8>, Fail> {
     let mut text = Vec::from_slice(alloc, b"page = 0x9F\n[[cpu]]\nid = 0\nwords = [")?;
-    for _ in 0..times {
-        text.extend_from_slice(word.as_bytes())?;
-    }
-    text.extend_from_slice(b"]\n#")?;
-    let rest = vec![in alloc; b' '; size.saturating_sub(text.len())]?;
-    text.extend_from_slice(rest.as_slice())?;
+    push_words(&mut text, word, times)?;
+    push_comment(&mut text, size)?;
     Ok(text)
 }

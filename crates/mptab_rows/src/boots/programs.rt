@@ -2,21 +2,14 @@
 //! usual board.
 
 use crate::boots::harness::are_answered;
-use mptab_cases::boots::programs::{DEFAULTS, OF_USUAL, WRITTEN};
-use mptab_cases::boots::{BOTH, Row};
+use mptab_cases::boots::BOTH;
+use mptab_cases::boots::programs::{defaults, of_usual, written};
 use std::test::Fail;
-
-/// All of them.
-const PROGRAMS: &[(&str, &[Row])] = &[
-    ("default configurations", DEFAULTS),
-    ("whole reports", WRITTEN),
-    ("the usual board", OF_USUAL),
-];
 
 #[test]
 fn boot_programs(rt: HostRuntime) -> Result<(), Fail> {
-    for (name, rows) in PROGRAMS {
-        are_answered(&rt, rt.alloc(), BOTH, name, rows)?;
-    }
-    Ok(())
+    let defaults = defaults();
+    are_answered(&rt, rt.alloc(), BOTH, "default configurations", defaults)?;
+    are_answered(&rt, rt.alloc(), BOTH, "whole reports", written())?;
+    are_answered(&rt, rt.alloc(), BOTH, "the usual board", of_usual())
 }

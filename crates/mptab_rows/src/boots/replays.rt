@@ -1,8 +1,9 @@
 //! Reports of three pulses on one pin, judged: the run itself, what is wrong of others, lines that are no report,
 //! and the report of a boot.
 
-use crate::boots::harness::{Answer, answer_of, boots_legally, shelf_of};
-use crate::harness::same;
+use crate::boots::harness::{answer_of, boots_legally, shelf_of};
+use crate::harness::{Answer, same};
+use mpt_base::MemShelf;
 use mptab_cases::boots::three_pulses::{ONE_PIN, THREE_PULSES, THREE_PULSES_SCRIPT};
 use mptab_cases::boots::{IMAGE, REPORT, SCRIPT};
 use std::alloc::Global;
@@ -87,6 +88,11 @@ const CASES: &[Case] = &[
     },
 ];
 
+/// The report of the run itself.
+fn whole() -> &'static str {
+    str::from_utf8(THREE_PULSES).unwrap_or("")
+}
+
 /// The text with the last place of `old` changed.
 fn changed(alloc: Global, text: &str, old: &str, new: &str) -> Result<String, Fail> {
     let Some((before, after)) = text.rsplit_once(old) else {
@@ -95,9 +101,14 @@ fn changed(alloc: Global, text: &str, old: &str, new: &str) -> Result<String, Fa
     Ok(format!(in alloc; "{before}{new}{after}")?)
 }
 
+/// A shelf with the image and the script of three pulses.
+fn shelf_of_pulses(alloc: Global) -> Result<MemShelf, Fail> {
+    shelf_of(alloc, &ONE_PIN, THREE_PULSES_SCRIPT)
+}
+
 /// The answer of `replay` to this report.
 fn judged<R: Threads + Wait + Sync>(rt: &R, alloc: Global, report: &[u8]) -> Result<Answer, Fail> {
-    let mut shelf = shelf_of(alloc, &ONE_PIN, THREE_PULSES_SCRIPT.as_bytes())?;
+    let mut shelf = shelf_of_pulses(alloc)?;
     shelf.add(REPORT, report)?;
     answer_of(rt, alloc, &["replay", IMAGE, SCRIPT, REPORT], &mut shelf, 0)
 }
@@ -111,12 +122,12 @@ fn is_judged<R: Threads + Wait + Sync>(
     text: &str,
 ) -> Result<bool, Fail> {
     let answer = judged(rt, alloc, report.as_bytes())?;
-    Ok(answer.is(status, text))
+    Ok(answer.is(status, text.as_bytes()))
 }
 
 /// Whether the verdict on the changed report of a case is as it says.
 fn is_right<R: Threads + Wait + Sync>(rt: &R, alloc: Global, case: &Case) -> Result<bool, Fail> {
-    let report = changed(alloc, THREE_PULSES, case.old, case.new)?;
+    let report = changed(alloc, whole(), case.old, case.new)?;
     is_judged(rt, alloc, report.as_str(), case.status, case.text)
 }
 
@@ -131,7 +142,7 @@ fn reports_that_are_judged(rt: HostRuntime) -> Result<(), Fail> {
 
 /// The report without its last entry.
 fn cut_report(alloc: Global) -> Result<String, Fail> {
-    let shorter = changed(alloc, THREE_PULSES, "14 cpu 00 eoi : ended.21.edge\n", "")?;
+    let shorter = changed(alloc, whole(), "14 cpu 00 eoi : ended.21.edge\n", "")?;
     changed(alloc, shorter.as_str(), "entries 15\n", "entries 14\n")
 }
 
@@ -146,22 +157,21 @@ fn report_that_is_cut(rt: HostRuntime) -> Result<(), Fail> {
 
 #[test]
 fn boot_is_legal(rt: HostRuntime) -> Result<(), Fail> {
-    let mut shelf = shelf_of(rt.alloc(), &ONE_PIN, THREE_PULSES_SCRIPT.as_bytes())?;
+    let mut shelf = shelf_of_pulses(rt.alloc())?;
     let legal = boots_legally(&rt, rt.alloc(), &mut shelf)?;
     same(&rt, "the verdict on a boot", legal, true);
     Ok(())
 }
 
+/// The answer of `replay` to a report that isn't there.
+fn without_report<R: Threads + Wait + Sync>(rt: &R, alloc: Global) -> Result<Answer, Fail> {
+    let mut shelf = shelf_of_pulses(alloc)?;
+    answer_of(rt, alloc, &["replay", IMAGE, SCRIPT, "x"], &mut shelf, 0)
+}
+
 #[test]
 fn report_that_is_missing(rt: HostRuntime) -> Result<(), Fail> {
-    let mut shelf = shelf_of(rt.alloc(), &ONE_PIN, THREE_PULSES_SCRIPT.as_bytes())?;
-    let answer = answer_of(
-        &rt,
-        rt.alloc(),
-        &["replay", IMAGE, SCRIPT, "x"],
-        &mut shelf,
-        0,
-    )?;
-    same(&rt, "no file", answer.is(3, "mptab: no file x\n"), true);
+    let answer = without_report(&rt, rt.alloc())?;
+    same(&rt, "no file", answer.is(3, b"mptab: no file x\n"), true);
     Ok(())
 }

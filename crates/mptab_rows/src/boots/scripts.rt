@@ -2,7 +2,7 @@
 
 use crate::boots::harness::{answer_to, are_answered, script_of};
 use crate::harness::same;
-use mptab_cases::boots::scripts::REFUSED;
+use mptab_cases::boots::scripts::{refused_agents, refused_keys, refused_words};
 use mptab_cases::boots::{BOTH, NOTHING, ONE};
 use std::alloc::Global;
 use std::sync::Wait;
@@ -11,22 +11,24 @@ use std::thread::Threads;
 
 #[test]
 fn scripts_that_are_refused(rt: HostRuntime) -> Result<(), Fail> {
-    are_answered(&rt, rt.alloc(), BOTH, "the first wrong row", REFUSED)
+    are_answered(&rt, rt.alloc(), BOTH, "keys", refused_keys())?;
+    are_answered(&rt, rt.alloc(), BOTH, "agents", refused_agents())?;
+    are_answered(&rt, rt.alloc(), BOTH, "words", refused_words())
 }
 
 /// How many words a script has, and to how many bytes it is filled up; the answer.
-type Size = (usize, usize, u8, &'static str);
+type Size = (usize, usize, u8, &'static [u8]);
 
 const SIZES: &[Size] = &[
     (
         8192,
         0,
         0,
-        "mpboot 1\nentries 8192\n0 cpu 00 eoi : nothing\n",
+        b"mpboot 1\nentries 8192\n0 cpu 00 eoi : nothing\n",
     ),
-    (8193, 0, 8, "mptab: script many 8193\n"),
+    (8193, 0, 8, b"mptab: script many 8193\n"),
     (0, 1_048_576, 0, NOTHING),
-    (0, 1_048_577, 10, "mptab: too large boot.toml 1048577\n"),
+    (0, 1_048_577, 10, b"mptab: too large boot.toml 1048577\n"),
 ];
 
 /// Whether `trace` answers so to one processor with this script.
@@ -35,10 +37,10 @@ fn is_traced<R: Threads + Wait + Sync>(
     alloc: Global,
     script: &[u8],
     status: u8,
-    text: &str,
+    text: &[u8],
 ) -> Result<bool, Fail> {
     let answer = answer_to(rt, alloc, "trace", &ONE, script)?;
-    Ok(answer.is(status, text))
+    Ok(answer.reports(status, text))
 }
 
 /// Whether `trace` answers as a row says.
@@ -51,7 +53,12 @@ fn is_right<R: Threads + Wait + Sync>(rt: &R, alloc: Global, size: &Size) -> Res
 fn sizes_of_scripts(rt: HostRuntime) -> Result<(), Fail> {
     for size in SIZES {
         let right = is_right(&rt, rt.alloc(), size)?;
-        same(&rt, size.3, right, true);
+        same(
+            &rt,
+            "a size",
+            (size.0, size.1, right),
+            (size.0, size.1, true),
+        );
     }
     Ok(())
 }

@@ -42,30 +42,36 @@ fn lines_of(entry: &Entry) -> Lines {
 }
 
 /// Writes the lines of an entry.
-fn push_entry(alloc: Global, text: &mut String, entry: &Entry) -> Result<(), Fail> {
+fn push_entry(alloc: Global, text: &mut Vec<u8>, entry: &Entry) -> Result<(), Fail> {
     let (begin, from, to, end) = lines_of(entry);
     for id in from..=to {
         let line = format!(in alloc; "{begin}{id:02X}{end}")?;
-        text.push_str(line.as_str())?;
+        text.extend_from_slice(line.as_str().as_bytes())?;
+    }
+    Ok(())
+}
+
+/// Writes the lines of each of these entries.
+fn push_entries(alloc: Global, text: &mut Vec<u8>, entries: &[Entry]) -> Result<(), Fail> {
+    for entry in entries {
+        push_entry(alloc, text, entry)?;
     }
     Ok(())
 }
 
 /// The listing of these tables.
-pub(crate) fn listing_of(alloc: Global, tables: &Tables) -> Result<String, Fail> {
+pub(crate) fn listing_of(alloc: Global, tables: &Tables) -> Result<Vec<u8>, Fail> {
     match tables {
-        Tables::Text(listing) => Ok(String::from_str(alloc, listing)?),
+        Tables::Text(listing) => Ok(Vec::from_slice(alloc, listing)?),
         Tables::Listed(entries, lines) => listing_with(alloc, entries, lines),
     }
 }
 
 /// The listing of these entries and lines.
-fn listing_with(alloc: Global, entries: &[Entry], lines: &str) -> Result<String, Fail> {
-    let mut text = String::from_str(alloc, HEAD)?;
-    for entry in entries {
-        push_entry(alloc, &mut text, entry)?;
-    }
-    text.push_str(lines)?;
-    text.push_str("end\n")?;
+fn listing_with(alloc: Global, entries: &[Entry], lines: &[u8]) -> Result<Vec<u8>, Fail> {
+    let mut text = Vec::from_slice(alloc, HEAD.as_bytes())?;
+    push_entries(alloc, &mut text, entries)?;
+    text.extend_from_slice(lines)?;
+    text.extend_from_slice(b"end\n")?;
     Ok(text)
 }

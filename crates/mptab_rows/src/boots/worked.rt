@@ -4,24 +4,34 @@
 use crate::boots::harness::{are_answered, boots_so};
 use crate::harness::same;
 use mptab_cases::boots::BOTH;
-use mptab_cases::boots::worked::{BY_BOTH, BY_TURNS};
+use mptab_cases::boots::worked::{by_both, by_turns, by_turns_to_logical_ids};
 use std::test::Fail;
 
 #[test]
 fn reports(rt: HostRuntime) -> Result<(), Fail> {
-    are_answered(&rt, rt.alloc(), BOTH, "reports of both commands", BY_BOTH)?;
+    let both = by_both();
+    are_answered(&rt, rt.alloc(), BOTH, "reports of both commands", both)?;
+    let trace = &["trace"];
     are_answered(
         &rt,
         rt.alloc(),
-        &["trace"],
-        "reports of the round robin",
-        BY_TURNS,
+        trace,
+        "pins by the round robin",
+        by_turns(),
+    )?;
+    let logical = by_turns_to_logical_ids();
+    are_answered(
+        &rt,
+        rt.alloc(),
+        trace,
+        "messages by the round robin",
+        logical,
     )
 }
 
 #[test]
 fn boots_of_one_agent(rt: HostRuntime) -> Result<(), Fail> {
-    for row in BY_BOTH {
+    for row in by_both() {
         let right = boots_so(&rt, rt.alloc(), row)?;
         same(&rt, row.name, right, true);
     }
