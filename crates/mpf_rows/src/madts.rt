@@ -170,21 +170,21 @@ fn cut_tables_have_their_first_fault(rt: HostRuntime) -> Result<(), Fail> {
     Ok(())
 }
 
-fn cut_entries_are_refused(rt: &impl Abort, alloc: Global) {
-    let rows: [(&str, &[u8], u64); 5] = [
+/// The name of a row, the bytes of its entries, and where they are refused.
+type EntryRow = (&'static str, &'static [u8], u64);
+
+fn cut_entries() -> &'static [EntryRow] {
+    &[
         ("one byte", &[0], 44),
         ("one byte behind an entry", &[9, 3, 0, 7], 47),
         ("opaque, cut", &[9, 3], 44),
         ("type 1, cut", &[1, 12, 0, 0, 0, 0, 0, 0, 0, 0, 0], 44),
         ("type 2, cut", &[9, 3, 0, 2, 10, 0, 0], 47),
-    ];
-    for (name, entries, at) in rows {
-        entries_refused(rt, alloc, name, entries, at, MadtReason::CutEntry);
-    }
+    ]
 }
 
-fn wrong_lengths_are_refused(rt: &impl Abort, alloc: Global) {
-    let rows: [(&str, &[u8], u64); 8] = [
+fn wrong_lengths() -> &'static [EntryRow] {
+    &[
         ("length 0", &[9, 0], 45),
         ("length 1", &[9, 1], 45),
         ("type 0 of 9 bytes", &[0, 9, 0, 0, 0, 0, 0, 0, 0], 45),
@@ -197,17 +197,22 @@ fn wrong_lengths_are_refused(rt: &impl Abort, alloc: Global) {
         ),
         ("type 4 of 7 bytes", &[9, 2, 4, 7, 0, 0, 0, 0, 0], 47),
         ("the first of two", &[4, 6, 0, 0, 0, 0, 4, 7, 0], 51),
-    ];
+    ]
+}
+
+// the entries of each row are refused for this
+fn each_refused(rt: &impl Abort, alloc: Global, rows: &[EntryRow], why: MadtReason) {
     for (name, entries, at) in rows {
-        entries_refused(rt, alloc, name, entries, at, MadtReason::BadEntryLength);
+        entries_refused(rt, alloc, name, entries, *at, why);
     }
 }
 
 // entries that are cut or have a wrong length, behind right ones
 #[test]
 fn entries_have_their_first_fault(rt: HostRuntime) {
-    cut_entries_are_refused(&rt, rt.alloc());
-    wrong_lengths_are_refused(&rt, rt.alloc());
+    let length = MadtReason::BadEntryLength;
+    each_refused(&rt, rt.alloc(), cut_entries(), MadtReason::CutEntry);
+    each_refused(&rt, rt.alloc(), wrong_lengths(), length);
 }
 
 // what is read is written again, opaque entries too

@@ -75,8 +75,8 @@ fn repeated(rt: &impl Abort, alloc: Global) -> Platform {
 
 #[test]
 fn first_entries_decide(rt: HostRuntime) {
-    let p = repeated(&rt, rt.alloc());
     let want = [slot(3, 0xF8, [0, 0, 0, 1]), slot(0, 0x08, [2, 3, 1, 0])];
+    let p = repeated(&rt, rt.alloc());
     same_slots(&rt, rt.alloc(), &p, &want);
 }
 
@@ -103,16 +103,20 @@ fn other_table(rt: &impl Abort, alloc: Global) -> Pir {
     table(rt, alloc, &slots)
 }
 
-#[test]
-fn differences_are_in_order(rt: HostRuntime) {
-    let p = two_devices(&rt, rt.alloc());
-    let t = other_table(&rt, rt.alloc());
-    let want = [
+fn the_differences() -> [Difference; 5] {
+    [
         difference(0, 3, 1, Odd::Link), // wire 17, and INTA# has 16
         difference(0, 3, 2, Odd::Link), // wire 16, and INTB# has 17
         difference(0, 3, 3, Odd::OnlyMp), // link 0 in the first slot
         difference(2, 0, 0, Odd::Link), // wire 17, and INTA# of device 3 on bus 0 has 16
         difference(2, 0, 3, Odd::OnlyPir),
-    ];
+    ]
+}
+
+#[test]
+fn differences_are_in_order(rt: HostRuntime) {
+    let want = the_differences();
+    let p = two_devices(&rt, rt.alloc());
+    let t = other_table(&rt, rt.alloc());
     same_differences(&rt, rt.alloc(), "the differences", &p, &t, &want);
 }

@@ -44,14 +44,14 @@ fn translated(alloc: Global, p: &Platform, elcr: u16) -> Option<Vec<u8>> {
     }
 }
 
-fn same_table(rt: &impl Abort, alloc: Global, p: &Platform, elcr: u16, want: &[u8]) {
-    let bytes = translated(alloc, p, elcr).expect(rt, "no table");
+fn same_table(rt: &impl Abort, alloc: Global, p: Platform, elcr: u16, want: &[u8]) {
+    let bytes = translated(alloc, &p, elcr).expect(rt, "no table");
     same(rt, "the bytes of the table", bytes.as_slice(), want);
 }
 
 // the entries of the table of a platform, behind the header
-fn same_entries(rt: &impl Abort, alloc: Global, p: &Platform, elcr: u16, want: &[u8]) {
-    let bytes = translated(alloc, p, elcr).expect(rt, "no table");
+fn same_entries(rt: &impl Abort, alloc: Global, p: Platform, elcr: u16, want: &[u8]) {
+    let bytes = translated(alloc, &p, elcr).expect(rt, "no table");
     same(rt, "the entries of the table", bytes.get(44..), Some(want));
 }
 
@@ -59,8 +59,7 @@ fn same_entries(rt: &impl Abort, alloc: Global, p: &Platform, elcr: u16, want: &
 #[test]
 fn board_has_its_table(rt: HostRuntime) {
     let alloc = rt.alloc();
-    let p = board(&rt, alloc);
-    same_table(&rt, alloc, &p, 0, &BOARD);
+    same_table(&rt, alloc, board(&rt, alloc), 0, &BOARD);
 }
 
 // five I/O APICs of which one is disabled and one has the id of another: each enabled one has its entry,
@@ -82,7 +81,7 @@ fn each_enabled_io_apic_has_an_entry(rt: HostRuntime) {
         0, 0x40, 0, 0, 0, 48, 0, 0, 0, 1, 12, 5, 0, 0x50, 0, 0, 0, 72, 0, 0, 0, 1, 12, 6, 0, 0x60,
         0, 0, 0, 96, 0, 0, 0,
     ];
-    same_entries(&rt, alloc, &p, 0, &want);
+    same_entries(&rt, alloc, p, 0, &want);
 }
 
 // local NMIs: to all, though a processor has the id FFh; to the first of two with one id; to none; and an
@@ -109,7 +108,7 @@ fn local_nmis_go_to_uids(rt: HostRuntime) {
         0, 8, 0, 0xFF, 0, 0, 0, 0, 0, 8, 1, 7, 1, 0, 0, 0, 0, 8, 2, 7, 1, 0, 0, 0, 4, 6, 0xFF,
         0x0D, 0, 1, 4, 6, 1, 0x0F, 0, 0,
     ];
-    same_entries(&rt, alloc, &p, 0, &want);
+    same_entries(&rt, alloc, p, 0, &want);
 }
 
 // EISA interrupts by the ELCR, and PCI ones left out: IRQ 5 is level and low, IRQ 9 goes to the second
@@ -136,7 +135,7 @@ fn eisa_interrupts_follow_the_elcr(rt: HostRuntime) {
         1, 12, 2, 0, 0x10, 0, 0, 0, 0, 0, 0, 0, 1, 12, 3, 0, 0x20, 0, 0, 0, 24, 0, 0, 0, 2, 10, 0,
         5, 5, 0, 0, 0, 0x0F, 0, 2, 10, 0, 9, 25, 0, 0, 0, 0x05, 0,
     ];
-    same_entries(&rt, alloc, &p, 0x20, &want);
+    same_entries(&rt, alloc, p, 0x20, &want);
 }
 
 // ISA interrupts by their flags: IRQ 3 edge and high has no override; IRQ 4 is edge and low, IRQ 5 level and
@@ -169,7 +168,7 @@ fn overrides_follow_the_routes(rt: HostRuntime) {
         1, 12, 2, 0, 0x10, 0, 0, 0, 0, 0, 0, 0, 2, 10, 0, 4, 4, 0, 0, 0, 0x07, 0, 2, 10, 0, 5, 5,
         0, 0, 0, 0x0D, 0, 2, 10, 0, 6, 6, 0, 0, 0, 0x0F, 0, 2, 10, 0, 7, 9, 0, 0, 0, 0x05, 0,
     ];
-    same_entries(&rt, alloc, &p, 0, &want);
+    same_entries(&rt, alloc, p, 0, &want);
 }
 
 // two entries of bus 0, of which the first says ISA, and of bus 1, of which the first says PCI: IRQ 4 is one of ISA,
@@ -188,7 +187,7 @@ fn the_first_bus_entry_decides(rt: HostRuntime) {
     let want = [
         1, 12, 2, 0, 0x10, 0, 0, 0, 0, 0, 0, 0, 2, 10, 0, 4, 6, 0, 0, 0, 0x05, 0,
     ];
-    same_entries(&rt, alloc, &p, 0, &want);
+    same_entries(&rt, alloc, p, 0, &want);
 }
 
 // so many processors
@@ -241,15 +240,18 @@ fn differences(alloc: Global, p: &Platform, bytes: &[u8]) -> Option<u16> {
     differences_by(alloc, p, answers.as_slice(), bytes)
 }
 
-// the board's own table differs nowhere; with IRQ 0 level and low it differs there alone
-#[test]
-fn the_board_differs_at_irq_0(rt: HostRuntime) {
-    let alloc = rt.alloc();
-    let p = board(&rt, alloc);
-    same(&rt, "its own", differences(alloc, &p, &BOARD), Some(0));
+fn differs_at_irq_0(rt: &impl Abort, alloc: Global, p: &Platform) {
+    same(rt, "its own", differences(alloc, p, &BOARD), Some(0));
     let mut bytes = BOARD;
     bytes[9] = 0xB7;
     bytes[80] = 0x0F;
-    let got = differences(alloc, &p, &bytes);
-    same(&rt, "level and low", got, Some(1));
+    let got = differences(alloc, p, &bytes);
+    same(rt, "level and low", got, Some(1));
+}
+
+// the board's own table differs nowhere; with IRQ 0 level and low it differs there alone
+#[test]
+fn the_board_differs_at_irq_0(rt: HostRuntime) {
+    let p = board(&rt, rt.alloc());
+    differs_at_irq_0(&rt, rt.alloc(), &p);
 }
