@@ -44,10 +44,15 @@ fn same_findings(rt: &impl Abort, alloc: Global, name: &str, tables: &Tables, wa
     same(rt, name, found.as_slice(), want);
 }
 
-// just these findings are made of a table of these entries
-fn finds(rt: &impl Abort, alloc: Global, name: &str, base: &[Base], want: &[Row]) {
-    let tables = listed(alloc, base, &[]).expect(rt, "no memory");
+// just these findings are made of a table of these base and extended entries
+fn finds_in(rt: &impl Abort, alloc: Global, name: &str, base: &[Base], ext: &[Part], want: &[Row]) {
+    let tables = listed(alloc, base, ext).expect(rt, "no memory");
     same_findings(rt, alloc, name, &tables, want);
+}
+
+// just these findings are made of a table of these base entries
+fn finds(rt: &impl Abort, alloc: Global, name: &str, base: &[Base], want: &[Row]) {
+    finds_in(rt, alloc, name, base, &[], want);
 }
 
 // a table of a processor, a PCI bus, an I/O APIC and these entries has just these findings; the entries
@@ -60,15 +65,10 @@ fn finds_after(
     ext: &[Part],
     want: &[Row],
 ) {
-    let tables = more_tables(alloc, more, ext).expect(rt, "no memory");
-    same_findings(rt, alloc, name, &tables, want);
-}
-
-fn more_tables(alloc: Global, more: &[Base], ext: &[Part]) -> Result<Tables, AllocError> {
     let start = [cpu(0, 3), bus(0, *b"PCI   "), io(2, 1)];
-    let mut base = Vec::from_slice(alloc, &start)?;
-    base.extend_from_slice(more)?;
-    listed(alloc, base.as_slice(), ext)
+    let mut base = Vec::from_slice(alloc, &start).expect(rt, "no memory");
+    base.extend_from_slice(more).expect(rt, "no memory");
+    finds_in(rt, alloc, name, base.as_slice(), ext, want);
 }
 
 fn each_rule_on_processors(rt: &impl Abort, alloc: Global) {
@@ -367,7 +367,7 @@ fn each_rule_on_extended_entries(rt: HostRuntime) {
     each_rule_on_parents(&rt, rt.alloc());
 }
 
-// a processor, 256 buses and an I/O APIC
+// the base entries of a ring: a processor, 256 buses and an I/O APIC
 fn ring_base(alloc: Global) -> Result<Vec<Base>, AllocError> {
     let mut base = Vec::from_slice(alloc, &[cpu(0, 3)])?;
     for id in 0..=255u8 {
@@ -377,20 +377,13 @@ fn ring_base(alloc: Global) -> Result<Vec<Base>, AllocError> {
     Ok(base)
 }
 
-// each bus is the parent of the one before, and the last is below the first
+// its extended entries: each bus is the parent of the one before, and the last is below the first
 fn ring_parents(alloc: Global) -> Result<Vec<Part>, AllocError> {
     let mut ext = Vec::new(alloc);
     for id in 0..=255u8 {
         ext.push(Part::Hierarchy(id, 0, id.wrapping_add(1)))?;
     }
     Ok(ext)
-}
-
-// a table of 256 buses in a ring
-fn ring(alloc: Global) -> Result<Tables, AllocError> {
-    let base = ring_base(alloc)?;
-    let ext = ring_parents(alloc)?;
-    listed(alloc, base.as_slice(), ext.as_slice())
 }
 
 // each bus is in a ring
@@ -405,9 +398,17 @@ fn ring_findings(alloc: Global) -> Result<Vec<Row>, AllocError> {
 #[test]
 fn a_ring_of_all_buses(rt: HostRuntime) {
     let alloc = rt.alloc();
-    let tables = ring(alloc).expect(&rt, "no memory");
+    let base = ring_base(alloc).expect(&rt, "no memory");
+    let ext = ring_parents(alloc).expect(&rt, "no memory");
     let want = ring_findings(alloc).expect(&rt, "no memory");
-    same_findings(&rt, alloc, "a ring", &tables, want.as_slice());
+    finds_in(
+        &rt,
+        alloc,
+        "a ring",
+        base.as_slice(),
+        ext.as_slice(),
+        want.as_slice(),
+    );
 }
 
 // a table that breaks every rule but the one on revisions
