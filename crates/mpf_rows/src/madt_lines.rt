@@ -7,7 +7,6 @@ use mpt_base::seal8;
 use mpt_route::Platform;
 use std::alloc::Global;
 use std::process::Abort;
-use std::test::Fail;
 
 fn line(gsi: u32, level: bool, low: bool) -> Line {
     Line { gsi, level, low }
@@ -89,31 +88,31 @@ fn the_first_override_of_bus_0_decides(rt: HostRuntime) {
     the_first_decides(&rt, rt.alloc(), bytes.as_slice());
 }
 
+/// Flags, and whether they say level and low.
+const FLAG_ROWS: &[(u8, bool, bool)] = &[
+    (0x0, false, false),
+    (0x1, false, false),
+    (0x2, false, false),
+    (0x3, false, true),
+    (0x4, false, false),
+    (0x7, false, true),
+    (0x8, false, false),
+    (0xB, false, true),
+    (0xC, true, false),
+    (0xD, true, false),
+    (0xE, true, false),
+    (0xF, true, true),
+];
+
 // bytes 80 and 81 of the board's table are the flags of its override: polarity 00, 01, 10, 11, and trigger
 // mode 00, 01, 10, 11 in bits 2 to 3; only 11 says low or level
 #[test]
-fn only_11_is_low_or_level(rt: HostRuntime) -> Result<(), Fail> {
-    let alloc = rt.alloc();
-    let rows = [
-        (0x0, false, false),
-        (0x1, false, false),
-        (0x2, false, false),
-        (0x3, false, true),
-        (0x4, false, false),
-        (0x7, false, true),
-        (0x8, false, false),
-        (0xB, false, true),
-        (0xC, true, false),
-        (0xD, true, false),
-        (0xE, true, false),
-        (0xF, true, true),
-    ];
-    for (flags, level, low) in rows {
+fn only_11_is_low_or_level(rt: HostRuntime) {
+    for (flags, level, low) in FLAG_ROWS {
         let mut bytes = BOARD;
-        bytes[80] = flags;
+        bytes[80] = *flags;
         seal8(&mut bytes, 9);
-        let want = Some(line(2, level, low));
-        same(&rt, "flags", isa_in(alloc, &bytes, 0), want);
+        let want = Some(line(2, *level, *low));
+        same(&rt, "flags", isa_in(rt.alloc(), &bytes, 0), want);
     }
-    Ok(())
 }

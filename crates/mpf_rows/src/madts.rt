@@ -73,8 +73,8 @@ fn with_bytes(places: [(usize, u8); 4]) -> [u8; 88] {
     bytes
 }
 
-/// The name of a row, and the bytes that are put into the board's table.
-type HeaderRow = (&'static str, [(usize, u8); 4]);
+/// The name of a row, the bytes that are put into the board's table, and its first fault.
+type HeaderRow = (&'static str, [(usize, u8); 4], u64, MadtReason);
 
 /// No byte: its place is behind the table.
 const NONE: (usize, u8) = (88, 0);
@@ -89,59 +89,119 @@ const OTHER: (usize, u8) = (82, 9);
 /// Its length: seven bytes, which pass the end.
 const SEVEN: (usize, u8) = (83, 7);
 
-// this is the first fault of each
-fn headers_refused(rt: &impl Abort, alloc: Global, at: u64, why: MadtReason, rows: &[HeaderRow]) {
-    for (name, places) in rows {
-        refused(rt, alloc, name, &with_bytes(*places), at, why);
+const SIGNATURE_ROWS: &[HeaderRow] = &[
+    (
+        "signature",
+        [SIGNATURE, (9, 0xC0), NONE, NONE],
+        0,
+        MadtReason::BadSignature,
+    ),
+    (
+        "signature, checksum",
+        [SIGNATURE, NONE, NONE, NONE],
+        0,
+        MadtReason::BadSignature,
+    ),
+    (
+        "signature, length",
+        [SIGNATURE, LENGTH, NONE, NONE],
+        0,
+        MadtReason::BadSignature,
+    ),
+    (
+        "signature, entry",
+        [SIGNATURE, ENTRY, (9, 0xBF), NONE],
+        0,
+        MadtReason::BadSignature,
+    ),
+    (
+        "signature, cut entry",
+        [SIGNATURE, OTHER, SEVEN, (9, 0xBA)],
+        0,
+        MadtReason::BadSignature,
+    ),
+];
+
+const LENGTH_ROWS: &[HeaderRow] = &[
+    (
+        "length",
+        [LENGTH, (9, 0xC2), NONE, NONE],
+        4,
+        MadtReason::BadLength,
+    ),
+    (
+        "length, checksum",
+        [LENGTH, NONE, NONE, NONE],
+        4,
+        MadtReason::BadLength,
+    ),
+    (
+        "length, entry",
+        [LENGTH, ENTRY, NONE, NONE],
+        4,
+        MadtReason::BadLength,
+    ),
+    (
+        "length, cut entry",
+        [LENGTH, OTHER, SEVEN, (9, 0xBC)],
+        4,
+        MadtReason::BadLength,
+    ),
+    (
+        "length of 2^24 more",
+        [(7, 1), NONE, NONE, NONE],
+        4,
+        MadtReason::BadLength,
+    ),
+];
+
+const CHECKSUM_AND_ENTRY_ROWS: &[HeaderRow] = &[
+    (
+        "checksum",
+        [(9, 0xC2), NONE, NONE, NONE],
+        9,
+        MadtReason::BadSum,
+    ),
+    (
+        "checksum, entry",
+        [ENTRY, NONE, NONE, NONE],
+        9,
+        MadtReason::BadSum,
+    ),
+    (
+        "checksum, cut entry",
+        [OTHER, SEVEN, NONE, NONE],
+        9,
+        MadtReason::BadSum,
+    ),
+    (
+        "cut entry",
+        [OTHER, SEVEN, (9, 0xBB), NONE],
+        82,
+        MadtReason::CutEntry,
+    ),
+    (
+        "entry",
+        [ENTRY, (9, 0xC0), NONE, NONE],
+        61,
+        MadtReason::BadEntryLength,
+    ),
+];
+
+// the table of each row has this first fault
+fn headers_refused(rt: &impl Abort, alloc: Global, rows: &[HeaderRow]) {
+    for (name, places, at, why) in rows {
+        refused(rt, alloc, name, &with_bytes(*places), *at, *why);
     }
-}
-
-fn signatures_are_refused(rt: &impl Abort, alloc: Global) {
-    let rows = [
-        ("signature", [SIGNATURE, (9, 0xC0), NONE, NONE]),
-        ("signature, checksum", [SIGNATURE, NONE, NONE, NONE]),
-        ("signature, length", [SIGNATURE, LENGTH, NONE, NONE]),
-        ("signature, entry", [SIGNATURE, ENTRY, (9, 0xBF), NONE]),
-        ("signature, cut entry", [SIGNATURE, OTHER, SEVEN, (9, 0xBA)]),
-    ];
-    headers_refused(rt, alloc, 0, MadtReason::BadSignature, &rows);
-}
-
-fn lengths_are_refused(rt: &impl Abort, alloc: Global) {
-    let rows = [
-        ("length", [LENGTH, (9, 0xC2), NONE, NONE]),
-        ("length, checksum", [LENGTH, NONE, NONE, NONE]),
-        ("length, entry", [LENGTH, ENTRY, NONE, NONE]),
-        ("length, cut entry", [LENGTH, OTHER, SEVEN, (9, 0xBC)]),
-        ("length of 2^24 more", [(7, 1), NONE, NONE, NONE]),
-    ];
-    headers_refused(rt, alloc, 4, MadtReason::BadLength, &rows);
-}
-
-fn checksums_are_refused(rt: &impl Abort, alloc: Global) {
-    let rows = [
-        ("checksum", [(9, 0xC2), NONE, NONE, NONE]),
-        ("checksum, entry", [ENTRY, NONE, NONE, NONE]),
-        ("checksum, cut entry", [OTHER, SEVEN, NONE, NONE]),
-    ];
-    headers_refused(rt, alloc, 9, MadtReason::BadSum, &rows);
-}
-
-fn first_entries_are_refused(rt: &impl Abort, alloc: Global) {
-    let cut = with_bytes([OTHER, SEVEN, (9, 0xBB), NONE]);
-    refused(rt, alloc, "cut entry", &cut, 82, MadtReason::CutEntry);
-    let entry = with_bytes([ENTRY, (9, 0xC0), NONE, NONE]);
-    refused(rt, alloc, "entry", &entry, 61, MadtReason::BadEntryLength);
 }
 
 // faults of the header, each alone and before each that stands beside it: a wrong signature, length or
 // checksum, at 61 the length of an entry, and at 82 an entry of type 9 whose seven bytes pass the end
 #[test]
 fn headers_have_their_first_fault(rt: HostRuntime) {
-    signatures_are_refused(&rt, rt.alloc());
-    lengths_are_refused(&rt, rt.alloc());
-    checksums_are_refused(&rt, rt.alloc());
-    first_entries_are_refused(&rt, rt.alloc());
+    headers_refused(&rt, rt.alloc(), SIGNATURE_ROWS);
+    headers_refused(&rt, rt.alloc(), LENGTH_ROWS);
+    headers_refused(&rt, rt.alloc(), CHECKSUM_AND_ENTRY_ROWS);
 }
 
 // bytes that are too few, and a table without its last byte
@@ -228,15 +288,6 @@ fn tables_are_written_again(rt: HostRuntime) {
     entries_same_again(&rt, alloc, &each);
 }
 
-// an opaque entry of this type, with a rest of so many bytes
-fn opaque_entry(alloc: Global, kind: u8, size: usize) -> Result<MadtEntry, AllocError> {
-    let rest = vec![in alloc; 0u8; size]?;
-    Ok(MadtEntry::Other(Opaque {
-        kind,
-        rest: Sequence::new(rest),
-    }))
-}
-
 // a table of these entries
 fn table(entries: Vec<MadtEntry>) -> Madt {
     Madt {
@@ -252,15 +303,16 @@ fn table(entries: Vec<MadtEntry>) -> Madt {
     }
 }
 
-// puts an opaque entry of this type behind these
+// puts an opaque entry of this type, with a rest of so many bytes, behind these
 fn push_opaque(
     alloc: Global,
     entries: &mut Vec<MadtEntry>,
     kind: u8,
     size: usize,
 ) -> Result<(), AllocError> {
-    let entry = opaque_entry(alloc, kind, size)?;
-    entries.push(entry)?;
+    let rest = vec![in alloc; 0u8; size]?;
+    let rest = Sequence::new(rest);
+    entries.push(MadtEntry::Other(Opaque { kind, rest }))?;
     Ok(())
 }
 
@@ -286,19 +338,21 @@ fn is_lawful(rt: &impl Abort, alloc: Global, kind: u8, size: usize) -> bool {
     madt_ok(&opaque(alloc, kind, size).expect(rt, "no memory"))
 }
 
+/// The name of a row, the type of an opaque entry, how many bytes its rest has, and whether it is lawful.
+const OPAQUE_ROWS: &[(&str, u8, usize, bool)] = &[
+    ("type 3", 3, 253, true),
+    ("254 bytes", 3, 254, false),
+    ("type 0", 0, 6, false),
+    ("type 1", 1, 10, false),
+    ("type 2", 2, 8, false),
+    ("type 4", 4, 4, false),
+];
+
 // opaque entries have a type of their own and a rest of at most 253 bytes
 #[test]
 fn opaque_entries_are_judged(rt: HostRuntime) {
-    let rows = [
-        ("type 3", 3, 253, true),
-        ("254 bytes", 3, 254, false),
-        ("type 0", 0, 6, false),
-        ("type 1", 1, 10, false),
-        ("type 2", 2, 8, false),
-        ("type 4", 4, 4, false),
-    ];
-    for (name, kind, size, want) in rows {
-        same(&rt, name, is_lawful(&rt, rt.alloc(), kind, size), want);
+    for (name, kind, size, want) in OPAQUE_ROWS {
+        same(&rt, name, is_lawful(&rt, rt.alloc(), *kind, *size), *want);
     }
 }
 

@@ -97,63 +97,102 @@ fn with_bytes(places: [(usize, u8); 3]) -> [u8; 48] {
     bytes
 }
 
-/// The name of a row, and the bytes that are put into the board's table.
-type Row = (&'static str, [(usize, u8); 3]);
+/// The name of a row, the bytes that are put into the board's table, and its first fault.
+type Row = (&'static str, [(usize, u8); 3], u64, PirReason);
 
 /// No byte: its place is behind the table.
 const NONE: (usize, u8) = (48, 0);
 
-// this is the first fault of each
-fn told(rt: &impl Abort, alloc: Global, at: u64, why: PirReason, rows: &[Row]) {
-    for (name, places) in rows {
+const SIGNATURE_ROWS: &[Row] = &[
+    (
+        "signature",
+        [(0, 0x25), (31, 0xAE), NONE],
+        0,
+        PirReason::BadSignature,
+    ),
+    (
+        "signature, sum",
+        [(3, 0x53), NONE, NONE],
+        0,
+        PirReason::BadSignature,
+    ),
+    (
+        "signature, version",
+        [(0, 0x25), (5, 0x00), NONE],
+        0,
+        PirReason::BadSignature,
+    ),
+    (
+        "signature, size",
+        [(0, 0x25), (6, 0x20), (31, 0xBE)],
+        0,
+        PirReason::BadSignature,
+    ),
+];
+
+const VERSION_ROWS: &[Row] = &[
+    (
+        "version 0.0",
+        [(5, 0x00), (31, 0xB0), NONE],
+        4,
+        PirReason::BadVersion,
+    ),
+    (
+        "version 1.1, sum",
+        [(4, 0x01), NONE, NONE],
+        4,
+        PirReason::BadVersion,
+    ),
+    (
+        "version, size",
+        [(4, 0x01), (6, 0x31), (31, 0xAD)],
+        4,
+        PirReason::BadVersion,
+    ),
+];
+
+const SIZE_AND_SUM_ROWS: &[Row] = &[
+    (
+        "a size of 32",
+        [(6, 0x20), (31, 0xBF), NONE],
+        6,
+        PirReason::BadSize,
+    ),
+    (
+        "a size of 49, sum",
+        [(6, 0x31), NONE, NONE],
+        6,
+        PirReason::BadSize,
+    ),
+    (
+        "a size of 304, sum",
+        [(7, 0x01), NONE, NONE],
+        6,
+        PirReason::BadSize,
+    ),
+    ("sum", [(31, 0xAE), NONE, NONE], 31, PirReason::BadSum),
+    (
+        "a byte of a slot, sum",
+        [(47, 0x01), NONE, NONE],
+        31,
+        PirReason::BadSum,
+    ),
+];
+
+// the table of each row has this first fault
+fn told(rt: &impl Abort, alloc: Global, rows: &[Row]) {
+    for (name, places, at, why) in rows {
         let got = fault_of(alloc, &with_bytes(*places));
-        same(rt, name, got, fault(at, why));
+        same(rt, name, got, fault(*at, *why));
     }
-}
-
-fn signatures_are_told(rt: &impl Abort, alloc: Global) {
-    let rows = [
-        ("signature", [(0, 0x25), (31, 0xAE), NONE]),
-        ("signature, sum", [(3, 0x53), NONE, NONE]),
-        ("signature, version", [(0, 0x25), (5, 0x00), NONE]),
-        ("signature, size", [(0, 0x25), (6, 0x20), (31, 0xBE)]),
-    ];
-    told(rt, alloc, 0, PirReason::BadSignature, &rows);
-}
-
-fn versions_are_told(rt: &impl Abort, alloc: Global) {
-    let rows = [
-        ("version 0.0", [(5, 0x00), (31, 0xB0), NONE]),
-        ("version 1.1, sum", [(4, 0x01), NONE, NONE]),
-        ("version, size", [(4, 0x01), (6, 0x31), (31, 0xAD)]),
-    ];
-    told(rt, alloc, 4, PirReason::BadVersion, &rows);
-}
-
-fn sizes_are_told(rt: &impl Abort, alloc: Global) {
-    let rows = [
-        ("a size of 32", [(6, 0x20), (31, 0xBF), NONE]),
-        ("a size of 49, sum", [(6, 0x31), NONE, NONE]),
-        ("a size of 304, sum", [(7, 0x01), NONE, NONE]),
-    ];
-    told(rt, alloc, 6, PirReason::BadSize, &rows);
-}
-
-fn sums_are_told(rt: &impl Abort, alloc: Global) {
-    let rows = [
-        ("sum", [(31, 0xAE), NONE, NONE]),
-        ("a byte of a slot, sum", [(47, 0x01), NONE, NONE]),
-    ];
-    told(rt, alloc, 31, PirReason::BadSum, &rows);
 }
 
 // each fault alone and before each that stands beside it; where a byte is changed alone, the sum is wrong too
 #[test]
 fn the_first_fault_is_told(rt: HostRuntime) {
-    signatures_are_told(&rt, rt.alloc());
-    versions_are_told(&rt, rt.alloc());
-    sizes_are_told(&rt, rt.alloc());
-    sums_are_told(&rt, rt.alloc());
+    told(&rt, rt.alloc(), SIGNATURE_ROWS);
+    told(&rt, rt.alloc(), VERSION_ROWS);
+    told(&rt, rt.alloc(), SIZE_AND_SUM_ROWS);
 }
 
 #[test]

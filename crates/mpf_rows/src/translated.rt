@@ -4,8 +4,7 @@ use crate::harness::same;
 use crate::platforms::{BOARD, answers, board, bus, cpu, int, io, platform};
 use mpf_madt::{Madt, TranslateFault, differ, madt_ok, read_madt, translate, write_madt};
 use mpt_route::{Answer, Platform};
-use mpt_spec::Processor;
-use std::alloc::{AllocError, Global};
+use std::alloc::Global;
 use std::process::Abort;
 
 // the table of a platform with less than 1,000 entries of each kind
@@ -44,14 +43,13 @@ fn translated(alloc: Global, p: &Platform, elcr: u16) -> Option<Vec<u8>> {
     }
 }
 
-fn same_table(rt: &impl Abort, alloc: Global, p: Platform, elcr: u16, want: &[u8]) {
-    let bytes = translated(alloc, &p, elcr).expect(rt, "no table");
-    same(rt, "the bytes of the table", bytes.as_slice(), want);
+fn table_of(rt: &impl Abort, alloc: Global, p: Platform, elcr: u16) -> Vec<u8> {
+    translated(alloc, &p, elcr).expect(rt, "no table")
 }
 
 // the entries of the table of a platform, behind the header
 fn same_entries(rt: &impl Abort, alloc: Global, p: Platform, elcr: u16, want: &[u8]) {
-    let bytes = translated(alloc, &p, elcr).expect(rt, "no table");
+    let bytes = table_of(rt, alloc, p, elcr);
     same(rt, "the entries of the table", bytes.get(44..), Some(want));
 }
 
@@ -59,7 +57,9 @@ fn same_entries(rt: &impl Abort, alloc: Global, p: Platform, elcr: u16, want: &[
 #[test]
 fn board_has_its_table(rt: HostRuntime) {
     let alloc = rt.alloc();
-    same_table(&rt, alloc, board(&rt, alloc), 0, &BOARD);
+    let bytes = table_of(&rt, alloc, board(&rt, alloc), 0);
+    let want = BOARD.as_slice();
+    same(&rt, "the bytes of the table", bytes.as_slice(), want);
 }
 
 // five I/O APICs of which one is disabled and one has the id of another: each enabled one has its entry,
@@ -190,15 +190,6 @@ fn the_first_bus_entry_decides(rt: HostRuntime) {
     same_entries(&rt, alloc, p, 0, &want);
 }
 
-// so many processors
-fn processors(alloc: Global, count: usize) -> Result<Vec<Processor>, AllocError> {
-    let mut processors = Vec::new(alloc);
-    for _ in 0..count {
-        processors.push(cpu(0, 1))?;
-    }
-    Ok(processors)
-}
-
 // the fault of a platform
 fn fault_of(alloc: Global, p: &Platform) -> Option<TranslateFault> {
     match madt_of(alloc, p, &[]) {
@@ -209,7 +200,7 @@ fn fault_of(alloc: Global, p: &Platform) -> Option<TranslateFault> {
 
 // the fault of a platform of so many processors
 fn fault_of_many(rt: &impl Abort, alloc: Global, count: usize) -> Option<TranslateFault> {
-    let processors = processors(alloc, count).expect(rt, "no memory");
+    let processors = vec![in alloc; cpu(0, 1); count].expect(rt, "no memory");
     let p = platform(rt, alloc, processors.as_slice(), &[], &[], &[], &[]);
     fault_of(alloc, &p)
 }

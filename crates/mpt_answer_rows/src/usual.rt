@@ -193,18 +193,23 @@ fn routes_a_default_by_its_lines(rt: HostRuntime) {
     begins(&rt, text.as_slice(), LEVEL_LINES);
 }
 
+/// Words, and the ELCR that each is.
+const ELCR_ROWS: &[(&str, Option<u16>)] = &[
+    ("0000", Some(0)),
+    ("0E20", Some(0x0E20)),
+    ("fFaA", Some(0xFFAA)),
+    ("9d0b", Some(0x9D0B)),
+    ("", None),
+    ("000", None),
+    ("00000", None),
+    ("00G0", None),
+    ("+000", None),
+    ("0x00", None),
+];
+
 #[test]
 fn reads_the_elcr_of_four_digits(rt: HostRuntime) {
-    let read = [
-        ("0000", 0),
-        ("0E20", 0x0E20),
-        ("fFaA", 0xFFAA),
-        ("9d0b", 0x9D0B),
-    ];
-    for (word, number) in read {
-        same(&rt, word, read_elcr(word), Some(number));
-    }
-    for word in ["", "000", "00000", "00G0", "+000", "0x00"] {
-        same(&rt, word, read_elcr(word), None);
+    for (word, number) in ELCR_ROWS {
+        same(&rt, word, read_elcr(word), *number);
     }
 }
