@@ -2,7 +2,7 @@
 //! written again.
 
 use crate::harness::same;
-use crate::platforms::{BOARD, sealed};
+use crate::platforms::{BOARD, with_entries};
 use mpf_madt::{
     Madt, MadtEntry, MadtReason, MadtRefusal, Opaque, Sequence, madt_ok, read_madt, write_madt,
 };
@@ -39,17 +39,14 @@ fn written_again(alloc: Global, bytes: &[u8]) -> Option<Vec<u8>> {
 }
 
 fn same_again(rt: &impl Abort, alloc: Global, bytes: &[u8]) {
-    let Some(again) = written_again(alloc, bytes) else {
-        panic!(rt; "not read and written");
-    };
+    let again = written_again(alloc, bytes).expect(rt, "not read and written");
     same(rt, "the bytes again", again.as_slice(), bytes);
 }
 
-// the header with these bytes of entries behind it, with its length and its checksum
-fn with_entries(alloc: Global, entries: &[u8]) -> Result<Vec<u8>, AllocError> {
-    let mut bytes = Vec::from_slice(alloc, &BOARD[..44])?;
-    bytes.extend_from_slice(entries)?;
-    Ok(sealed(bytes))
+// the table with these entries is read and written again
+fn entries_same_again(rt: &impl Abort, alloc: Global, entries: &[u8]) {
+    let bytes = with_entries(rt, alloc, entries);
+    same_again(rt, alloc, bytes.as_slice());
 }
 
 // the entries are refused for this
@@ -60,10 +57,9 @@ fn entries_refused(
     entries: &[u8],
     at: u64,
     why: MadtReason,
-) -> Result<(), AllocError> {
-    let bytes = with_entries(alloc, entries)?;
+) {
+    let bytes = with_entries(rt, alloc, entries);
     refused(rt, alloc, name, bytes.as_slice(), at, why);
-    Ok(())
 }
 
 // the board's table with four bytes in the place of others
@@ -77,114 +73,135 @@ fn with_bytes(places: [(usize, u8); 4]) -> [u8; 88] {
     bytes
 }
 
+/// The name of a row, the bytes that are put into the board's table, and its first fault.
+type HeaderRow = (&'static str, [(usize, u8); 4], u64, MadtReason);
+
+/// No byte: its place is behind the table.
+const NONE: (usize, u8) = (88, 0);
+/// A wrong signature.
+const SIGNATURE: (usize, u8) = (0, b'B');
+/// A wrong length.
+const LENGTH: (usize, u8) = (4, 0x57);
+/// A wrong length of an entry.
+const ENTRY: (usize, u8) = (61, 0x0D);
+/// The type of an entry of type 9.
+const OTHER: (usize, u8) = (82, 9);
+/// Its length: seven bytes, which pass the end.
+const SEVEN: (usize, u8) = (83, 7);
+
+const SIGNATURE_ROWS: &[HeaderRow] = &[
+    (
+        "signature",
+        [SIGNATURE, (9, 0xC0), NONE, NONE],
+        0,
+        MadtReason::BadSignature,
+    ),
+    (
+        "signature, checksum",
+        [SIGNATURE, NONE, NONE, NONE],
+        0,
+        MadtReason::BadSignature,
+    ),
+    (
+        "signature, length",
+        [SIGNATURE, LENGTH, NONE, NONE],
+        0,
+        MadtReason::BadSignature,
+    ),
+    (
+        "signature, entry",
+        [SIGNATURE, ENTRY, (9, 0xBF), NONE],
+        0,
+        MadtReason::BadSignature,
+    ),
+    (
+        "signature, cut entry",
+        [SIGNATURE, OTHER, SEVEN, (9, 0xBA)],
+        0,
+        MadtReason::BadSignature,
+    ),
+];
+
+const LENGTH_ROWS: &[HeaderRow] = &[
+    (
+        "length",
+        [LENGTH, (9, 0xC2), NONE, NONE],
+        4,
+        MadtReason::BadLength,
+    ),
+    (
+        "length, checksum",
+        [LENGTH, NONE, NONE, NONE],
+        4,
+        MadtReason::BadLength,
+    ),
+    (
+        "length, entry",
+        [LENGTH, ENTRY, NONE, NONE],
+        4,
+        MadtReason::BadLength,
+    ),
+    (
+        "length, cut entry",
+        [LENGTH, OTHER, SEVEN, (9, 0xBC)],
+        4,
+        MadtReason::BadLength,
+    ),
+    (
+        "length of 2^24 more",
+        [(7, 1), NONE, NONE, NONE],
+        4,
+        MadtReason::BadLength,
+    ),
+];
+
+const CHECKSUM_AND_ENTRY_ROWS: &[HeaderRow] = &[
+    (
+        "checksum",
+        [(9, 0xC2), NONE, NONE, NONE],
+        9,
+        MadtReason::BadSum,
+    ),
+    (
+        "checksum, entry",
+        [ENTRY, NONE, NONE, NONE],
+        9,
+        MadtReason::BadSum,
+    ),
+    (
+        "checksum, cut entry",
+        [OTHER, SEVEN, NONE, NONE],
+        9,
+        MadtReason::BadSum,
+    ),
+    (
+        "cut entry",
+        [OTHER, SEVEN, (9, 0xBB), NONE],
+        82,
+        MadtReason::CutEntry,
+    ),
+    (
+        "entry",
+        [ENTRY, (9, 0xC0), NONE, NONE],
+        61,
+        MadtReason::BadEntryLength,
+    ),
+];
+
+// the table of each row has this first fault
+fn headers_refused(rt: &impl Abort, alloc: Global, rows: &[HeaderRow]) {
+    for (name, places, at, why) in rows {
+        refused(rt, alloc, name, &with_bytes(*places), *at, *why);
+    }
+}
+
 // faults of the header, each alone and before each that stands beside it: a wrong signature, length or
 // checksum, at 61 the length of an entry, and at 82 an entry of type 9 whose seven bytes pass the end
 #[test]
-fn headers_have_their_first_fault(rt: HostRuntime) -> Result<(), Fail> {
-    let alloc = rt.alloc();
-    let none = (88, 0);
-    let signature = (0, b'B');
-    let length = (4, 0x57);
-    let checksum = (9, 0xC2);
-    let entry = (61, 0x0D);
-    let other = (82, 9);
-    let seven = (83, 7);
-    let rows = [
-        (
-            "signature",
-            [signature, (9, 0xC0), none, none],
-            0,
-            MadtReason::BadSignature,
-        ),
-        (
-            "signature, checksum",
-            [signature, none, none, none],
-            0,
-            MadtReason::BadSignature,
-        ),
-        (
-            "signature, length",
-            [signature, length, none, none],
-            0,
-            MadtReason::BadSignature,
-        ),
-        (
-            "signature, entry",
-            [signature, entry, (9, 0xBF), none],
-            0,
-            MadtReason::BadSignature,
-        ),
-        (
-            "signature, cut entry",
-            [signature, other, seven, (9, 0xBA)],
-            0,
-            MadtReason::BadSignature,
-        ),
-        (
-            "length",
-            [length, (9, 0xC2), none, none],
-            4,
-            MadtReason::BadLength,
-        ),
-        (
-            "length, checksum",
-            [length, none, none, none],
-            4,
-            MadtReason::BadLength,
-        ),
-        (
-            "length, entry",
-            [length, entry, none, none],
-            4,
-            MadtReason::BadLength,
-        ),
-        (
-            "length, cut entry",
-            [length, other, seven, (9, 0xBC)],
-            4,
-            MadtReason::BadLength,
-        ),
-        (
-            "length of 2^24 more",
-            [(7, 1), none, none, none],
-            4,
-            MadtReason::BadLength,
-        ),
-        (
-            "checksum",
-            [checksum, none, none, none],
-            9,
-            MadtReason::BadSum,
-        ),
-        (
-            "checksum, entry",
-            [entry, none, none, none],
-            9,
-            MadtReason::BadSum,
-        ),
-        (
-            "checksum, cut entry",
-            [other, seven, none, none],
-            9,
-            MadtReason::BadSum,
-        ),
-        (
-            "cut entry",
-            [other, seven, (9, 0xBB), none],
-            82,
-            MadtReason::CutEntry,
-        ),
-        (
-            "entry",
-            [entry, (9, 0xC0), none, none],
-            61,
-            MadtReason::BadEntryLength,
-        ),
-    ];
-    for (name, places, at, why) in rows {
-        refused(&rt, alloc, name, &with_bytes(places), at, why);
-    }
-    Ok(())
+fn headers_have_their_first_fault(rt: HostRuntime) {
+    headers_refused(&rt, rt.alloc(), SIGNATURE_ROWS);
+    headers_refused(&rt, rt.alloc(), LENGTH_ROWS);
+    headers_refused(&rt, rt.alloc(), CHECKSUM_AND_ENTRY_ROWS);
 }
 
 // bytes that are too few, and a table without its last byte
@@ -213,71 +230,62 @@ fn cut_tables_have_their_first_fault(rt: HostRuntime) -> Result<(), Fail> {
     Ok(())
 }
 
-// entries that are cut or have a wrong length, behind right ones
-#[test]
-fn entries_have_their_first_fault(rt: HostRuntime) -> Result<(), Fail> {
-    let alloc = rt.alloc();
-    let cut = MadtReason::CutEntry;
-    let length = MadtReason::BadEntryLength;
-    let rows: [(&str, &[u8], u64, MadtReason); 13] = [
-        ("one byte", &[0], 44, cut),
-        ("one byte behind an entry", &[9, 3, 0, 7], 47, cut),
-        ("length 0", &[9, 0], 45, length),
-        ("length 1", &[9, 1], 45, length),
-        ("opaque, cut", &[9, 3], 44, cut),
-        (
-            "type 0 of 9 bytes",
-            &[0, 9, 0, 0, 0, 0, 0, 0, 0],
-            45,
-            length,
-        ),
-        ("type 0 of 255 bytes, cut", &[0, 255], 45, length),
-        ("type 1 of 8 bytes", &[1, 8, 0, 0, 0, 0, 0, 0], 45, length),
-        ("type 1, cut", &[1, 12, 0, 0, 0, 0, 0, 0, 0, 0, 0], 44, cut),
+/// The name of a row, the bytes of its entries, and where they are refused.
+type EntryRow = (&'static str, &'static [u8], u64);
+
+fn cut_entries() -> &'static [EntryRow] {
+    &[
+        ("one byte", &[0], 44),
+        ("one byte behind an entry", &[9, 3, 0, 7], 47),
+        ("opaque, cut", &[9, 3], 44),
+        ("type 1, cut", &[1, 12, 0, 0, 0, 0, 0, 0, 0, 0, 0], 44),
+        ("type 2, cut", &[9, 3, 0, 2, 10, 0, 0], 47),
+    ]
+}
+
+fn wrong_lengths() -> &'static [EntryRow] {
+    &[
+        ("length 0", &[9, 0], 45),
+        ("length 1", &[9, 1], 45),
+        ("type 0 of 9 bytes", &[0, 9, 0, 0, 0, 0, 0, 0, 0], 45),
+        ("type 0 of 255 bytes, cut", &[0, 255], 45),
+        ("type 1 of 8 bytes", &[1, 8, 0, 0, 0, 0, 0, 0], 45),
         (
             "type 2 of 12 bytes",
             &[2, 12, 0, 0, 0, 0, 0, 0, 0, 0, 0, 0],
             45,
-            length,
         ),
-        ("type 2, cut", &[9, 3, 0, 2, 10, 0, 0], 47, cut),
-        (
-            "type 4 of 7 bytes",
-            &[9, 2, 4, 7, 0, 0, 0, 0, 0],
-            47,
-            length,
-        ),
-        ("the first of two", &[4, 6, 0, 0, 0, 0, 4, 7, 0], 51, length),
-    ];
-    for (name, entries, at, why) in rows {
-        entries_refused(&rt, alloc, name, entries, at, why)?;
+        ("type 4 of 7 bytes", &[9, 2, 4, 7, 0, 0, 0, 0, 0], 47),
+        ("the first of two", &[4, 6, 0, 0, 0, 0, 4, 7, 0], 51),
+    ]
+}
+
+// the entries of each row are refused for this
+fn each_refused(rt: &impl Abort, alloc: Global, rows: &[EntryRow], why: MadtReason) {
+    for (name, entries, at) in rows {
+        entries_refused(rt, alloc, name, entries, *at, why);
     }
-    Ok(())
+}
+
+// entries that are cut or have a wrong length, behind right ones
+#[test]
+fn entries_have_their_first_fault(rt: HostRuntime) {
+    let length = MadtReason::BadEntryLength;
+    each_refused(&rt, rt.alloc(), cut_entries(), MadtReason::CutEntry);
+    each_refused(&rt, rt.alloc(), wrong_lengths(), length);
 }
 
 // what is read is written again, opaque entries too
 #[test]
-fn tables_are_written_again(rt: HostRuntime) -> Result<(), Fail> {
+fn tables_are_written_again(rt: HostRuntime) {
     let alloc = rt.alloc();
     same_again(&rt, alloc, &BOARD);
-    let empty = with_entries(alloc, &[])?;
-    same_again(&rt, alloc, empty.as_slice());
+    entries_same_again(&rt, alloc, &[]);
     let each = [
         0, 8, 1, 2, 3, 4, 5, 6, 1, 12, 7, 8, 9, 10, 11, 12, 13, 14, 15, 16, 2, 10, 17, 18, 19, 20,
         21, 22, 23, 24, 4, 6, 25, 26, 27, 28, 3, 2, 255, 5, 29, 30, 31,
     ];
-    let each = with_entries(alloc, &each)?;
-    same_again(&rt, alloc, each.as_slice());
-    Ok(())
-}
-
-// an opaque entry of this type, with a rest of so many bytes
-fn opaque_entry(alloc: Global, kind: u8, size: usize) -> Result<MadtEntry, AllocError> {
-    let rest = vec![in alloc; 0u8; size]?;
-    Ok(MadtEntry::Other(Opaque {
-        kind,
-        rest: Sequence::new(rest),
-    }))
+    entries_same_again(&rt, alloc, &each);
 }
 
 // a table of these entries
@@ -295,10 +303,23 @@ fn table(entries: Vec<MadtEntry>) -> Madt {
     }
 }
 
+// puts an opaque entry of this type, with a rest of so many bytes, behind these
+fn push_opaque(
+    alloc: Global,
+    entries: &mut Vec<MadtEntry>,
+    kind: u8,
+    size: usize,
+) -> Result<(), AllocError> {
+    let rest = vec![in alloc; 0u8; size]?;
+    let rest = Sequence::new(rest);
+    entries.push(MadtEntry::Other(Opaque { kind, rest }))?;
+    Ok(())
+}
+
 // a table with one opaque entry of this type, with a rest of so many bytes
 fn opaque(alloc: Global, kind: u8, size: usize) -> Result<Madt, AllocError> {
     let mut entries = Vec::new(alloc);
-    entries.push(opaque_entry(alloc, kind, size)?)?;
+    push_opaque(alloc, &mut entries, kind, size)?;
     Ok(table(entries))
 }
 
@@ -306,30 +327,44 @@ fn opaque(alloc: Global, kind: u8, size: usize) -> Result<Madt, AllocError> {
 fn large(alloc: Global, size: usize) -> Result<Madt, AllocError> {
     let mut entries = Vec::new(alloc);
     for _ in 0..4111 {
-        entries.push(opaque_entry(alloc, 3, 253)?)?;
+        push_opaque(alloc, &mut entries, 3, 253)?;
     }
-    entries.push(opaque_entry(alloc, 3, size)?)?;
+    push_opaque(alloc, &mut entries, 3, size)?;
     Ok(table(entries))
 }
 
+// whether an opaque entry of this type, with a rest of so many bytes, is lawful
+fn is_lawful(rt: &impl Abort, alloc: Global, kind: u8, size: usize) -> bool {
+    madt_ok(&opaque(alloc, kind, size).expect(rt, "no memory"))
+}
+
+/// The name of a row, the type of an opaque entry, how many bytes its rest has, and whether it is lawful.
+const OPAQUE_ROWS: &[(&str, u8, usize, bool)] = &[
+    ("type 3", 3, 253, true),
+    ("254 bytes", 3, 254, false),
+    ("type 0", 0, 6, false),
+    ("type 1", 1, 10, false),
+    ("type 2", 2, 8, false),
+    ("type 4", 4, 4, false),
+];
+
 // opaque entries have a type of their own and a rest of at most 253 bytes
 #[test]
-fn opaque_entries_are_judged(rt: HostRuntime) -> Result<(), Fail> {
-    let alloc = rt.alloc();
-    same(&rt, "type 3", madt_ok(&opaque(alloc, 3, 253)?), true);
-    same(&rt, "254 bytes", madt_ok(&opaque(alloc, 3, 254)?), false);
-    same(&rt, "type 0", madt_ok(&opaque(alloc, 0, 6)?), false);
-    same(&rt, "type 1", madt_ok(&opaque(alloc, 1, 10)?), false);
-    same(&rt, "type 2", madt_ok(&opaque(alloc, 2, 8)?), false);
-    same(&rt, "type 4", madt_ok(&opaque(alloc, 4, 4)?), false);
-    Ok(())
+fn opaque_entries_are_judged(rt: HostRuntime) {
+    for (name, kind, size, want) in OPAQUE_ROWS {
+        same(&rt, name, is_lawful(&rt, rt.alloc(), *kind, *size), *want);
+    }
+}
+
+// whether the large table with a rest of so many bytes is lawful
+fn large_is_lawful(rt: &impl Abort, alloc: Global, size: usize) -> bool {
+    madt_ok(&large(alloc, size).expect(rt, "no memory"))
 }
 
 // a table has at most 1,048,576 bytes
 #[test]
-fn large_tables_are_judged(rt: HostRuntime) -> Result<(), Fail> {
+fn large_tables_are_judged(rt: HostRuntime) {
     let alloc = rt.alloc();
-    same(&rt, "the most", madt_ok(&large(alloc, 225)?), true);
-    same(&rt, "one more", madt_ok(&large(alloc, 226)?), false);
-    Ok(())
+    same(&rt, "the most", large_is_lawful(&rt, alloc, 225), true);
+    same(&rt, "one more", large_is_lawful(&rt, alloc, 226), false);
 }

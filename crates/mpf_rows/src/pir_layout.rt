@@ -1,10 +1,11 @@
 //! A table with a value of its own in each field.
 
 use crate::harness::same;
-use mpf_pir::{Pir, Slot, read_pir, write_pir};
+use crate::pir::same_bytes;
+use mpf_pir::{Pir, Slot, read_pir};
 use mpt_spec::Sequence;
-use std::alloc::{AllocError, Global};
-use std::test::Fail;
+use std::alloc::Global;
+use std::process::Abort;
 
 /// Each field of a header and of a slot by its offset. The checksum at 31 was summed by hand.
 const TABLE: [u8; 48] = [
@@ -24,9 +25,9 @@ fn slot() -> Slot {
     }
 }
 
-fn table(alloc: Global) -> Result<Pir, AllocError> {
-    let slots = Vec::from_slice(alloc, &[slot()])?;
-    Ok(Pir {
+fn table(rt: &impl Abort, alloc: Global) -> Pir {
+    let slots = Vec::from_slice(alloc, &[slot()]).expect(rt, "no memory");
+    Pir {
         router_bus: 0x01,
         router_function: 0x3A,
         exclusive: 0x0C20,
@@ -36,33 +37,29 @@ fn table(alloc: Global) -> Result<Pir, AllocError> {
             0xA0, 0xA1, 0xA2, 0xA3, 0xA4, 0xA5, 0xA6, 0xA7, 0xA8, 0xA9, 0xAA,
         ],
         slots: Sequence::new(slots),
-    })
+    }
 }
 
-#[test]
-fn each_field_has_its_place(rt: HostRuntime) -> Result<(), Fail> {
-    let t = table(rt.alloc())?;
-    if t.slots.as_slice().len() > 4093 {
-        panic!(rt; "too many slots");
-    }
-    let Ok(bytes) = write_pir(rt.alloc(), &t) else {
-        panic!(rt; "no bytes");
-    };
-    same(&rt, "the bytes", bytes.as_slice(), TABLE.as_slice());
-    let Ok(read) = read_pir(rt.alloc(), &TABLE) else {
-        panic!(rt; "not read");
-    };
-    same(&rt, "the slots", read.slots.as_slice(), &[slot()]);
-    same(&rt, "router bus", read.router_bus, t.router_bus);
+// the table has the slot and the fields of the other
+fn same_table(rt: &impl Abort, read: &Pir, t: &Pir) {
+    same(rt, "the slots", read.slots.as_slice(), &[slot()]);
+    same(rt, "router bus", read.router_bus, t.router_bus);
     same(
-        &rt,
+        rt,
         "router function",
         read.router_function,
         t.router_function,
     );
-    same(&rt, "exclusive", read.exclusive, t.exclusive);
-    same(&rt, "compatible", read.compatible, t.compatible);
-    same(&rt, "miniport", read.miniport, t.miniport);
-    same(&rt, "reserved", read.reserved, t.reserved);
-    Ok(())
+    same(rt, "exclusive", read.exclusive, t.exclusive);
+    same(rt, "compatible", read.compatible, t.compatible);
+    same(rt, "miniport", read.miniport, t.miniport);
+    same(rt, "reserved", read.reserved, t.reserved);
+}
+
+#[test]
+fn each_field_has_its_place(rt: HostRuntime) {
+    let t = table(&rt, rt.alloc());
+    same_bytes(&rt, rt.alloc(), &t, &TABLE);
+    let read = read_pir(rt.alloc(), &TABLE).expect(&rt, "not read");
+    same_table(&rt, &read, &t);
 }

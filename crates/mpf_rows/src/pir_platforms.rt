@@ -1,12 +1,13 @@
 //! What decides a pin, its wire and its link.
 
 use crate::harness::same;
-use crate::pir::{int, made, platform};
+use crate::pir::{int, made, platform, same_differences};
 use crate::platforms::bus;
-use mpf_pir::{Difference, Odd, Pir, Slot, compare};
+use mpf_pir::{Difference, Odd, Pir, Slot};
+use mpt_route::Platform;
 use mpt_spec::Sequence;
-use std::alloc::{AllocError, Global};
-use std::test::Fail;
+use std::alloc::Global;
+use std::process::Abort;
 
 // a slot with these links alone
 fn slot(bus: u8, device: u8, links: [u8; 4]) -> Slot {
@@ -20,9 +21,9 @@ fn slot(bus: u8, device: u8, links: [u8; 4]) -> Slot {
     }
 }
 
-fn table(alloc: Global, slots: &[Slot]) -> Result<Pir, AllocError> {
-    let slots = Vec::from_slice(alloc, slots)?;
-    Ok(Pir {
+fn table(rt: &impl Abort, alloc: Global, slots: &[Slot]) -> Pir {
+    let slots = Vec::from_slice(alloc, slots).expect(rt, "no memory");
+    Pir {
         router_bus: 0,
         router_function: 0,
         exclusive: 0,
@@ -30,11 +31,27 @@ fn table(alloc: Global, slots: &[Slot]) -> Result<Pir, AllocError> {
         miniport: 0,
         reserved: [0; 11],
         slots: Sequence::new(slots),
-    })
+    }
 }
 
-#[test]
-fn first_entries_decide(rt: HostRuntime) -> Result<(), Fail> {
+fn difference(bus: u8, device: u8, pin: u8, why: Odd) -> Difference {
+    Difference {
+        bus,
+        device,
+        pin,
+        why,
+    }
+}
+
+// the table of the platform has these slots, and doesn't differ from it
+fn same_slots(rt: &impl Abort, alloc: Global, p: &Platform, want: &[Slot]) {
+    let t = made(alloc, p).expect(rt, "no table");
+    same(rt, "the slots", t.slots.as_slice(), want);
+    same_differences(rt, alloc, "no differences", p, &t, &[]);
+}
+
+// buses and pins that have more than one entry, and entries that no table has
+fn repeated(rt: &impl Abort, alloc: Global) -> Platform {
     let buses = [
         bus(3, *b"PCI   "),
         bus(0, *b"PCI   "),
@@ -53,21 +70,18 @@ fn first_entries_decide(rt: HostRuntime) -> Result<(), Fail> {
         int(0, 0, 0x04, 2, 23), // INTA# of device 1 again, on a wire that nobody else has
         int(0, 0, 0x05, 0xFF, 20), // INTB# of device 1, to all I/O APICs
     ];
-    let p = platform(rt.alloc(), &buses, &ints)?;
-    let Ok(t) = made(rt.alloc(), &p) else {
-        panic!(rt; "no table");
-    };
-    let want = [slot(3, 0xF8, [0, 0, 0, 1]), slot(0, 0x08, [2, 3, 1, 0])];
-    same(&rt, "the slots", t.slots.as_slice(), want.as_slice());
-    let Ok(found) = compare(rt.alloc(), &p, &t) else {
-        panic!(rt; "not compared");
-    };
-    same(&rt, "no differences", found.as_slice(), &[]);
-    Ok(())
+    platform(rt, alloc, &buses, &ints)
 }
 
 #[test]
-fn differences_are_in_order(rt: HostRuntime) -> Result<(), Fail> {
+fn first_entries_decide(rt: HostRuntime) {
+    let want = [slot(3, 0xF8, [0, 0, 0, 1]), slot(0, 0x08, [2, 3, 1, 0])];
+    let p = repeated(&rt, rt.alloc());
+    same_slots(&rt, rt.alloc(), &p, &want);
+}
+
+// a device on each of two buses
+fn two_devices(rt: &impl Abort, alloc: Global) -> Platform {
     let buses = [bus(0, *b"PCI   "), bus(2, *b"PCI   ")];
     let ints = [
         int(0, 2, 0x00, 0, 17), // INTA# of device 0 on bus 2
@@ -76,32 +90,33 @@ fn differences_are_in_order(rt: HostRuntime) -> Result<(), Fail> {
         int(0, 0, 0x0E, 0, 16), // INTC# of device 3
         int(0, 0, 0x0F, 0, 18), // INTD# of device 3
     ];
-    let p = platform(rt.alloc(), &buses, &ints)?;
+    platform(rt, alloc, &buses, &ints)
+}
+
+// a table that differs from their platform
+fn other_table(rt: &impl Abort, alloc: Global) -> Pir {
     let slots = [
         slot(2, 0x07, [9, 0, 0, 5]), // bits 2 to 0 are no part of the device
         slot(0, 0x18, [9, 9, 9, 0]),
         slot(0, 0x18, [0, 0, 0, 9]), // the first slot decides
     ];
-    let t = table(rt.alloc(), &slots)?;
-    let Ok(found) = compare(rt.alloc(), &p, &t) else {
-        panic!(rt; "not compared");
-    };
-    let rows = [
-        (0, 3, 1, Odd::Link), // wire 17, and INTA# has 16
-        (0, 3, 2, Odd::Link), // wire 16, and INTB# has 17
-        (0, 3, 3, Odd::OnlyMp), // link 0 in the first slot
-        (2, 0, 0, Odd::Link), // wire 17, and INTA# of device 3 on bus 0 has 16
-        (2, 0, 3, Odd::OnlyPir),
-    ];
-    let mut want = Vec::new(rt.alloc());
-    for (bus, device, pin, why) in rows {
-        want.push(Difference {
-            bus,
-            device,
-            pin,
-            why,
-        })?;
-    }
-    same(&rt, "the differences", found.as_slice(), want.as_slice());
-    Ok(())
+    table(rt, alloc, &slots)
+}
+
+fn the_differences() -> [Difference; 5] {
+    [
+        difference(0, 3, 1, Odd::Link), // wire 17, and INTA# has 16
+        difference(0, 3, 2, Odd::Link), // wire 16, and INTB# has 17
+        difference(0, 3, 3, Odd::OnlyMp), // link 0 in the first slot
+        difference(2, 0, 0, Odd::Link), // wire 17, and INTA# of device 3 on bus 0 has 16
+        difference(2, 0, 3, Odd::OnlyPir),
+    ]
+}
+
+#[test]
+fn differences_are_in_order(rt: HostRuntime) {
+    let want = the_differences();
+    let p = two_devices(&rt, rt.alloc());
+    let t = other_table(&rt, rt.alloc());
+    same_differences(&rt, rt.alloc(), "the differences", &p, &t, &want);
 }

@@ -1,19 +1,20 @@
 //! A usual board with one PCI interrupt: its table, and where other tables differ from it.
 
 use crate::harness::same;
-use crate::pir::{made, platform};
+use crate::pir::{made, platform, same_bytes, same_differences};
 use crate::platforms::{board_ints, bus};
-use mpf_pir::{Difference, Odd, PirReason, PirRefusal, compare, read_pir, write_pir};
+use mpf_pir::{Difference, Odd, PirReason, PirRefusal, read_pir};
 use mpt_base::put_bytes;
 use mpt_route::Platform;
 use std::alloc::Global;
+use std::process::Abort;
 use std::test::Fail;
 
 // INTA# of device 2 on bus 0, among the interrupts of an ISA bus
-fn board(alloc: Global) -> Result<Platform, Fail> {
+fn board(rt: &impl Abort, alloc: Global) -> Platform {
     let buses = [bus(0, *b"PCI   "), bus(1, *b"ISA   ")];
-    let ints = board_ints(alloc)?;
-    Ok(platform(alloc, &buses, ints.as_slice())?)
+    let ints = board_ints(alloc).expect(rt, "no memory");
+    platform(rt, alloc, &buses, ints.as_slice())
 }
 
 /// The 48 bytes of the board's table.
@@ -32,44 +33,45 @@ fn difference(device: u8, why: Odd) -> Difference {
     }
 }
 
-#[test]
-fn the_board_makes_its_table(rt: HostRuntime) -> Result<(), Fail> {
-    let p = board(rt.alloc())?;
-    let Ok(t) = made(rt.alloc(), &p) else {
-        panic!(rt; "no table");
-    };
-    if t.slots.as_slice().len() > 4093 {
-        panic!(rt; "too many slots");
-    }
-    let Ok(bytes) = write_pir(rt.alloc(), &t) else {
-        panic!(rt; "no bytes");
-    };
-    same(&rt, "the bytes", bytes.as_slice(), TABLE.as_slice());
-    let Ok(read) = read_pir(rt.alloc(), &TABLE) else {
-        panic!(rt; "not read");
-    };
-    let Ok(found) = compare(rt.alloc(), &p, &read) else {
-        panic!(rt; "not compared");
-    };
-    same(&rt, "no differences", found.as_slice(), &[]);
-    Ok(())
+// the table made of the platform is the board's
+fn makes_its_table(rt: &impl Abort, alloc: Global, p: &Platform) {
+    let t = made(alloc, p).expect(rt, "no table");
+    same_bytes(rt, alloc, &t, &TABLE);
+}
+
+// the platform differs in these from the table that the bytes are
+fn differs(
+    rt: &impl Abort,
+    alloc: Global,
+    name: &str,
+    p: &Platform,
+    bytes: &[u8],
+    want: &[Difference],
+) {
+    let t = read_pir(alloc, bytes).expect(rt, "not read");
+    same_differences(rt, alloc, name, p, &t, want);
 }
 
 #[test]
-fn another_device_is_two_differences(rt: HostRuntime) -> Result<(), Fail> {
-    let p = board(rt.alloc())?;
+fn the_board_makes_its_table(rt: HostRuntime) {
+    let p = board(&rt, rt.alloc());
+    makes_its_table(&rt, rt.alloc(), &p);
+    differs(&rt, rt.alloc(), "no differences", &p, &TABLE, &[]);
+}
+
+// the platform has device 2, and this table device 3
+fn has_another_device(rt: &impl Abort, alloc: Global, p: &Platform) {
     let mut bytes = TABLE;
     bytes[33] = 0x18;
     bytes[31] = 0xA7;
-    let Ok(t) = read_pir(rt.alloc(), &bytes) else {
-        panic!(rt; "not read");
-    };
-    let Ok(found) = compare(rt.alloc(), &p, &t) else {
-        panic!(rt; "not compared");
-    };
     let want = [difference(2, Odd::OnlyMp), difference(3, Odd::OnlyPir)];
-    same(&rt, "the differences", found.as_slice(), want.as_slice());
-    Ok(())
+    differs(rt, alloc, "the differences", p, &bytes, &want);
+}
+
+#[test]
+fn another_device_is_two_differences(rt: HostRuntime) {
+    let p = board(&rt, rt.alloc());
+    has_another_device(&rt, rt.alloc(), &p);
 }
 
 // the fault of bytes, and none where they are a table
@@ -95,88 +97,102 @@ fn with_bytes(places: [(usize, u8); 3]) -> [u8; 48] {
     bytes
 }
 
+/// The name of a row, the bytes that are put into the board's table, and its first fault.
+type Row = (&'static str, [(usize, u8); 3], u64, PirReason);
+
+/// No byte: its place is behind the table.
+const NONE: (usize, u8) = (48, 0);
+
+const SIGNATURE_ROWS: &[Row] = &[
+    (
+        "signature",
+        [(0, 0x25), (31, 0xAE), NONE],
+        0,
+        PirReason::BadSignature,
+    ),
+    (
+        "signature, sum",
+        [(3, 0x53), NONE, NONE],
+        0,
+        PirReason::BadSignature,
+    ),
+    (
+        "signature, version",
+        [(0, 0x25), (5, 0x00), NONE],
+        0,
+        PirReason::BadSignature,
+    ),
+    (
+        "signature, size",
+        [(0, 0x25), (6, 0x20), (31, 0xBE)],
+        0,
+        PirReason::BadSignature,
+    ),
+];
+
+const VERSION_ROWS: &[Row] = &[
+    (
+        "version 0.0",
+        [(5, 0x00), (31, 0xB0), NONE],
+        4,
+        PirReason::BadVersion,
+    ),
+    (
+        "version 1.1, sum",
+        [(4, 0x01), NONE, NONE],
+        4,
+        PirReason::BadVersion,
+    ),
+    (
+        "version, size",
+        [(4, 0x01), (6, 0x31), (31, 0xAD)],
+        4,
+        PirReason::BadVersion,
+    ),
+];
+
+const SIZE_AND_SUM_ROWS: &[Row] = &[
+    (
+        "a size of 32",
+        [(6, 0x20), (31, 0xBF), NONE],
+        6,
+        PirReason::BadSize,
+    ),
+    (
+        "a size of 49, sum",
+        [(6, 0x31), NONE, NONE],
+        6,
+        PirReason::BadSize,
+    ),
+    (
+        "a size of 304, sum",
+        [(7, 0x01), NONE, NONE],
+        6,
+        PirReason::BadSize,
+    ),
+    ("sum", [(31, 0xAE), NONE, NONE], 31, PirReason::BadSum),
+    (
+        "a byte of a slot, sum",
+        [(47, 0x01), NONE, NONE],
+        31,
+        PirReason::BadSum,
+    ),
+];
+
+// the table of each row has this first fault
+fn told(rt: &impl Abort, alloc: Global, rows: &[Row]) {
+    for (name, places, at, why) in rows {
+        let got = fault_of(alloc, &with_bytes(*places));
+        same(rt, name, got, fault(*at, *why));
+    }
+}
+
 // each fault alone and before each that stands beside it; where a byte is changed alone, the sum is wrong too
 #[test]
-fn the_first_fault_is_told(rt: HostRuntime) -> Result<(), Fail> {
-    let none = (48, 0);
-    let rows = [
-        (
-            "signature",
-            [(0, 0x25), (31, 0xAE), none],
-            0,
-            PirReason::BadSignature,
-        ),
-        (
-            "signature, sum",
-            [(3, 0x53), none, none],
-            0,
-            PirReason::BadSignature,
-        ),
-        (
-            "signature, version",
-            [(0, 0x25), (5, 0x00), none],
-            0,
-            PirReason::BadSignature,
-        ),
-        (
-            "signature, size",
-            [(0, 0x25), (6, 0x20), (31, 0xBE)],
-            0,
-            PirReason::BadSignature,
-        ),
-        (
-            "version 0.0",
-            [(5, 0x00), (31, 0xB0), none],
-            4,
-            PirReason::BadVersion,
-        ),
-        (
-            "version 1.1, sum",
-            [(4, 0x01), none, none],
-            4,
-            PirReason::BadVersion,
-        ),
-        (
-            "version, size",
-            [(4, 0x01), (6, 0x31), (31, 0xAD)],
-            4,
-            PirReason::BadVersion,
-        ),
-        (
-            "a size of 32",
-            [(6, 0x20), (31, 0xBF), none],
-            6,
-            PirReason::BadSize,
-        ),
-        (
-            "a size of 49, sum",
-            [(6, 0x31), none, none],
-            6,
-            PirReason::BadSize,
-        ),
-        (
-            "a size of 304, sum",
-            [(7, 0x01), none, none],
-            6,
-            PirReason::BadSize,
-        ),
-        ("sum", [(31, 0xAE), none, none], 31, PirReason::BadSum),
-        (
-            "a byte of a slot, sum",
-            [(47, 0x01), none, none],
-            31,
-            PirReason::BadSum,
-        ),
-    ];
-    for (name, places, at, why) in rows {
-        same(
-            &rt,
-            name,
-            fault_of(rt.alloc(), &with_bytes(places)),
-            fault(at, why),
-        );
-    }
-    Ok(())
+fn the_first_fault_is_told(rt: HostRuntime) {
+    told(&rt, rt.alloc(), SIGNATURE_ROWS);
+    told(&rt, rt.alloc(), VERSION_ROWS);
+    told(&rt, rt.alloc(), SIZE_AND_SUM_ROWS);
 }
 
 #[test]

@@ -4,6 +4,7 @@ use mpt_base::{put_u32, seal8};
 use mpt_route::{Answer, Platform, routes};
 use mpt_spec::{Bus, IntEntry, IoApic, Processor, Sequence};
 use std::alloc::{AllocError, Global};
+use std::process::Abort;
 
 /// The table of the usual two-processor board: two local APICs, an I/O APIC, IRQ 0 at interrupt 2, and an
 /// NMI to all at LINTIN 1.
@@ -17,13 +18,20 @@ pub(crate) const BOARD: [u8; 88] = [
 ];
 
 /// The bytes with their number at the length, and the checksum that makes their sum zero.
-pub(crate) fn sealed(mut bytes: Vec<u8>) -> Vec<u8> {
+fn sealed(mut bytes: Vec<u8>) -> Vec<u8> {
     if bytes.len() >= 10 && bytes.len() < 1000 {
         let size = bytes.len() as u32;
         put_u32(bytes.as_mut_slice(), 4, size);
         seal8(bytes.as_mut_slice(), 9);
     }
     bytes
+}
+
+/// The header of the board's table with these bytes of entries behind it, with its length and its checksum.
+pub(crate) fn with_entries(rt: &impl Abort, alloc: Global, entries: &[u8]) -> Vec<u8> {
+    let mut bytes = Vec::from_slice(alloc, &BOARD[..44]).expect(rt, "no memory");
+    bytes.extend_from_slice(entries).expect(rt, "no memory");
+    sealed(bytes)
 }
 
 /// A processor with a local APIC id and flags.
@@ -65,33 +73,41 @@ pub(crate) fn int(kind: u8, flags: u16, bus: u8, irq: u8, dest: u8, pin: u8) -> 
     }
 }
 
+// a sequence of these items
+fn sequence<T: Copy + Drop>(rt: &impl Abort, alloc: Global, items: &[T]) -> Sequence<T> {
+    Sequence::new(Vec::from_slice(alloc, items).expect(rt, "no memory"))
+}
+
 /// A platform of these entries.
 pub(crate) fn platform(
+    rt: &impl Abort,
     alloc: Global,
     processors: &[Processor],
     buses: &[Bus],
     ios: &[IoApic],
     ints: &[IntEntry],
     lints: &[IntEntry],
-) -> Option<Platform> {
-    Some(Platform {
-        processors: Sequence::new(Vec::from_slice(alloc, processors).ok()?),
-        buses: Sequence::new(Vec::from_slice(alloc, buses).ok()?),
-        ios: Sequence::new(Vec::from_slice(alloc, ios).ok()?),
-        ints: Sequence::new(Vec::from_slice(alloc, ints).ok()?),
-        lints: Sequence::new(Vec::from_slice(alloc, lints).ok()?),
+) -> Platform {
+    Platform {
+        processors: sequence(rt, alloc, processors),
+        buses: sequence(rt, alloc, buses),
+        ios: sequence(rt, alloc, ios),
+        ints: sequence(rt, alloc, ints),
+        lints: sequence(rt, alloc, lints),
         imcr: false,
         local_address: 0xFEE0_0000,
-    })
+    }
 }
 
 /// The interrupts of the usual board: INTA# of PCI device 2, the pair of 8259A, and the ISA interrupts.
 pub(crate) fn board_ints(alloc: Global) -> Result<Vec<IntEntry>, AllocError> {
-    let mut ints = Vec::new(alloc);
-    ints.push(int(0, 0, 0, 0x08, 0, 0x10))?;
-    ints.push(int(3, 0, 1, 0, 0, 0))?;
-    ints.push(int(0, 0, 1, 0, 0, 2))?;
-    ints.push(int(0, 0, 1, 1, 0, 1))?;
+    let first = [
+        int(0, 0, 0, 0x08, 0, 0x10),
+        int(3, 0, 1, 0, 0, 0),
+        int(0, 0, 1, 0, 0, 2),
+        int(0, 0, 1, 1, 0, 1),
+    ];
+    let mut ints = Vec::from_slice(alloc, &first)?;
     for irq in 3..16u8 {
         ints.push(int(0, 0, 1, irq, 0, irq))?;
     }
@@ -99,9 +115,10 @@ pub(crate) fn board_ints(alloc: Global) -> Result<Vec<IntEntry>, AllocError> {
 }
 
 /// The platform of the usual two-processor board.
-pub(crate) fn board(alloc: Global) -> Option<Platform> {
-    let ints = board_ints(alloc).ok()?;
+pub(crate) fn board(rt: &impl Abort, alloc: Global) -> Platform {
+    let ints = board_ints(alloc).expect(rt, "no memory");
     platform(
+        rt,
         alloc,
         &[cpu(0, 3), cpu(1, 1)],
         &[bus(0, *b"PCI   "), bus(1, *b"ISA   ")],

@@ -8,7 +8,6 @@ use mpt_spec::{Base, Tables};
 use mpt_write::well_formed;
 use std::alloc::{AllocError, Global};
 use std::process::Abort;
-use std::test::Fail;
 
 /// Where a finding names no entry.
 const NO: u32 = 65_535;
@@ -41,18 +40,19 @@ fn findings_of(alloc: Global, tables: &Tables) -> Option<Vec<Row>> {
 
 // just these findings are made of the tables, in this order
 fn same_findings(rt: &impl Abort, alloc: Global, name: &str, tables: &Tables, want: &[Row]) {
-    let Some(found) = findings_of(alloc, tables) else {
-        panic!(rt; "no findings");
-    };
+    let found = findings_of(alloc, tables).expect(rt, "no findings");
     same(rt, name, found.as_slice(), want);
 }
 
-// just these findings are made of a table of these entries
-fn finds(rt: &impl Abort, alloc: Global, name: &str, base: &[Base], want: &[Row]) {
-    let Ok(tables) = listed(alloc, base, &[]) else {
-        panic!(rt; "no memory");
-    };
+// just these findings are made of a table of these base and extended entries
+fn finds_in(rt: &impl Abort, alloc: Global, name: &str, base: &[Base], ext: &[Part], want: &[Row]) {
+    let tables = listed(alloc, base, ext).expect(rt, "no memory");
     same_findings(rt, alloc, name, &tables, want);
+}
+
+// just these findings are made of a table of these base entries
+fn finds(rt: &impl Abort, alloc: Global, name: &str, base: &[Base], want: &[Row]) {
+    finds_in(rt, alloc, name, base, &[], want);
 }
 
 // a table of a processor, a PCI bus, an I/O APIC and these entries has just these findings; the entries
@@ -65,78 +65,77 @@ fn finds_after(
     ext: &[Part],
     want: &[Row],
 ) {
-    let Ok(tables) = more_tables(alloc, more, ext) else {
-        panic!(rt; "no memory");
-    };
-    same_findings(rt, alloc, name, &tables, want);
-}
-
-fn more_tables(alloc: Global, more: &[Base], ext: &[Part]) -> Result<Tables, AllocError> {
     let start = [cpu(0, 3), bus(0, *b"PCI   "), io(2, 1)];
-    let mut base = Vec::from_slice(alloc, &start)?;
-    base.extend_from_slice(more)?;
-    listed(alloc, base.as_slice(), ext)
+    let mut base = Vec::from_slice(alloc, &start).expect(rt, "no memory");
+    base.extend_from_slice(more).expect(rt, "no memory");
+    finds_in(rt, alloc, name, base.as_slice(), ext, want);
 }
 
-#[test]
-fn each_rule_on_processors_and_buses(rt: HostRuntime) {
-    let alloc = rt.alloc();
+fn each_rule_on_processors(rt: &impl Abort, alloc: Global) {
     let isa = bus(0, *b"ISA   ");
-    finds(&rt, alloc, "none", &[cpu(0, 3), isa, io(2, 1)], &[]);
-    finds(&rt, alloc, "1", &[cpu(0, 1), isa, io(2, 1)], &[(1, NO, NO)]);
+    finds(rt, alloc, "none", &[cpu(0, 3), isa, io(2, 1)], &[]);
+    finds(rt, alloc, "1", &[cpu(0, 1), isa, io(2, 1)], &[(1, NO, NO)]);
     finds(
-        &rt,
+        rt,
         alloc,
         "2",
         &[cpu(0, 3), cpu(1, 3), cpu(2, 3), isa, io(3, 1)],
         &[(2, 1, 0), (2, 2, 0)],
     );
     finds(
-        &rt,
+        rt,
         alloc,
         "3",
         &[cpu(0, 2), isa, io(2, 1)],
         &[(1, NO, NO), (3, 0, NO)],
     );
+}
+
+fn each_rule_on_ids(rt: &impl Abort, alloc: Global) {
+    let isa = bus(0, *b"ISA   ");
     finds(
-        &rt,
+        rt,
         alloc,
         "4",
         &[cpu(0, 3), cpu(1, 1), cpu(1, 0), cpu(1, 1), isa, io(2, 1)],
         &[(4, 2, 1), (4, 3, 1)],
     );
     finds(
-        &rt,
+        rt,
         alloc,
         "5",
         &[cpu(0, 3), isa, io(2, 1), io(2, 0)],
         &[(5, 3, 2)],
     );
     finds(
-        &rt,
+        rt,
         alloc,
         "6",
         &[cpu(1, 3), cpu(0, 1), isa, io(0, 1)],
         &[(6, 3, 1)],
     );
+}
+
+fn each_rule_on_buses(rt: &impl Abort, alloc: Global) {
+    let isa = bus(0, *b"ISA   ");
     finds(
-        &rt,
+        rt,
         alloc,
         "7",
         &[cpu(0, 3), isa, bus(2, *b"PCI   "), io(2, 1)],
         &[(7, 2, NO)],
     );
-    finds(&rt, alloc, "8", &[cpu(0, 3), isa, io(2, 0)], &[(8, NO, NO)]);
+    finds(rt, alloc, "8", &[cpu(0, 3), isa, io(2, 0)], &[(8, NO, NO)]);
     finds(
-        &rt,
+        rt,
         alloc,
         "9",
         &[cpu(0, 3), bus(0, *b"ISA\0\0\0"), io(2, 1)],
         &[(9, 1, NO)],
     );
-    finds(&rt, alloc, "10", &[cpu(0, 3), io(2, 1), isa], &[(10, 2, 1)]);
+    finds(rt, alloc, "10", &[cpu(0, 3), io(2, 1), isa], &[(10, 2, 1)]);
     finds(
-        &rt,
+        rt,
         alloc,
         "14",
         &[cpu(0, 7), isa, io(2, 3)],
@@ -145,10 +144,15 @@ fn each_rule_on_processors_and_buses(rt: HostRuntime) {
 }
 
 #[test]
-fn each_rule_on_interrupts(rt: HostRuntime) {
-    let alloc = rt.alloc();
+fn each_rule_on_processors_and_buses(rt: HostRuntime) {
+    each_rule_on_processors(&rt, rt.alloc());
+    each_rule_on_ids(&rt, rt.alloc());
+    each_rule_on_buses(&rt, rt.alloc());
+}
+
+fn each_rule_on_an_interrupt(rt: &impl Abort, alloc: Global) {
     finds_after(
-        &rt,
+        rt,
         alloc,
         "none",
         &[int(0, 0, 0, 4, 2, 1), lint(1, 0, 0, 0, 0xFF, 1)],
@@ -156,7 +160,7 @@ fn each_rule_on_interrupts(rt: HostRuntime) {
         &[],
     );
     finds_after(
-        &rt,
+        rt,
         alloc,
         "11",
         &[int(0, 0, 1, 4, 2, 1), lint(1, 0, 1, 0, 0xFF, 1)],
@@ -164,7 +168,7 @@ fn each_rule_on_interrupts(rt: HostRuntime) {
         &[(11, 3, NO), (11, 4, NO)],
     );
     finds_after(
-        &rt,
+        rt,
         alloc,
         "12",
         &[int(0, 0, 0, 4, 0, 1), lint(1, 0, 0, 0, 2, 1)],
@@ -172,15 +176,18 @@ fn each_rule_on_interrupts(rt: HostRuntime) {
         &[(12, 3, NO), (12, 4, NO)],
     );
     finds_after(
-        &rt,
+        rt,
         alloc,
         "13",
         &[int(0, 0, 0, 4, 2, 24), lint(1, 0, 0, 0, 0, 2)],
         &[],
         &[(13, 3, NO), (13, 4, NO)],
     );
+}
+
+fn each_rule_on_flags(rt: &impl Abort, alloc: Global) {
     finds_after(
-        &rt,
+        rt,
         alloc,
         "14",
         &[int(0, 16, 0, 4, 2, 23), lint(1, 0x8000, 0, 0, 0, 0)],
@@ -188,7 +195,7 @@ fn each_rule_on_interrupts(rt: HostRuntime) {
         &[(14, 3, NO), (14, 4, NO)],
     );
     finds_after(
-        &rt,
+        rt,
         alloc,
         "16",
         &[
@@ -200,8 +207,11 @@ fn each_rule_on_interrupts(rt: HostRuntime) {
         &[],
         &[(16, 3, NO), (16, 4, NO), (16, 5, NO), (16, 6, NO)],
     );
+}
+
+fn each_rule_on_two_interrupts(rt: &impl Abort, alloc: Global) {
     finds_after(
-        &rt,
+        rt,
         alloc,
         "18",
         &[
@@ -214,7 +224,7 @@ fn each_rule_on_interrupts(rt: HostRuntime) {
     );
     // of the third entry at the pin the first with another sense is the second
     finds_after(
-        &rt,
+        rt,
         alloc,
         "19",
         &[
@@ -227,7 +237,7 @@ fn each_rule_on_interrupts(rt: HostRuntime) {
         &[(19, 4, 3), (19, 5, 4), (19, 6, 3)],
     );
     finds_after(
-        &rt,
+        rt,
         alloc,
         "19, to all",
         &[int(0, 0, 0, 4, 0xFF, 1), int(0, 5, 0, 5, 0xFF, 1)],
@@ -237,11 +247,16 @@ fn each_rule_on_interrupts(rt: HostRuntime) {
 }
 
 #[test]
-fn each_rule_on_extended_entries(rt: HostRuntime) {
-    let alloc = rt.alloc();
+fn each_rule_on_interrupts(rt: HostRuntime) {
+    each_rule_on_an_interrupt(&rt, rt.alloc());
+    each_rule_on_flags(&rt, rt.alloc());
+    each_rule_on_two_interrupts(&rt, rt.alloc());
+}
+
+fn each_rule_on_an_extended_entry(rt: &impl Abort, alloc: Global) {
     let top = 0xFFFF_FFFF_FFFF_FFFF;
     finds_after(
-        &rt,
+        rt,
         alloc,
         "17 and 23",
         &[],
@@ -260,7 +275,7 @@ fn each_rule_on_extended_entries(rt: HostRuntime) {
         ],
     );
     finds_after(
-        &rt,
+        rt,
         alloc,
         "21",
         &[],
@@ -272,9 +287,13 @@ fn each_rule_on_extended_entries(rt: HostRuntime) {
         ],
         &[(21, 1, NO), (21, 3, NO)],
     );
+}
+
+fn ranges_that_meet(rt: &impl Abort, alloc: Global) {
+    let top = 0xFFFF_FFFF_FFFF_FFFF;
     // ranges that touch don't meet, nor do those of other kinds, empty ones, and one past the top
     finds_after(
-        &rt,
+        rt,
         alloc,
         "22, none",
         &[],
@@ -289,7 +308,7 @@ fn each_rule_on_extended_entries(rt: HostRuntime) {
         &[(21, 5, NO)],
     );
     finds_after(
-        &rt,
+        rt,
         alloc,
         "22",
         &[],
@@ -302,8 +321,11 @@ fn each_rule_on_extended_entries(rt: HostRuntime) {
         ],
         &[(22, 2, 0), (22, 3, 0), (22, 4, 1)],
     );
+}
+
+fn each_rule_on_parents(rt: &impl Abort, alloc: Global) {
     finds_after(
-        &rt,
+        rt,
         alloc,
         "23",
         &[],
@@ -316,7 +338,7 @@ fn each_rule_on_extended_entries(rt: HostRuntime) {
     );
     // the first hierarchy entry of a bus says its parent: 0 is below the ring of 1 and 2, and 3 has none
     finds_after(
-        &rt,
+        rt,
         alloc,
         "24",
         &[bus(1, *b"PCI   "), bus(2, *b"PCI   "), bus(3, *b"PCI   ")],
@@ -338,22 +360,30 @@ fn each_rule_on_extended_entries(rt: HostRuntime) {
     );
 }
 
-// a table of 256 buses, each the parent of the one before, and the last below the first
-fn ring(alloc: Global) -> Result<Tables, AllocError> {
-    let mut base = Vec::new(alloc);
-    let mut ext = Vec::new(alloc);
-    push_ring(&mut base, &mut ext)?;
-    listed(alloc, base.as_slice(), ext.as_slice())
+#[test]
+fn each_rule_on_extended_entries(rt: HostRuntime) {
+    each_rule_on_an_extended_entry(&rt, rt.alloc());
+    ranges_that_meet(&rt, rt.alloc());
+    each_rule_on_parents(&rt, rt.alloc());
 }
 
-fn push_ring(base: &mut Vec<Base>, ext: &mut Vec<Part>) -> Result<(), AllocError> {
-    base.push(cpu(0, 3))?;
+// the base entries of a ring: a processor, 256 buses and an I/O APIC
+fn ring_base(alloc: Global) -> Result<Vec<Base>, AllocError> {
+    let mut base = Vec::from_slice(alloc, &[cpu(0, 3)])?;
     for id in 0..=255u8 {
         base.push(bus(id, *b"PCI   "))?;
-        ext.push(Part::Hierarchy(id, 0, id.wrapping_add(1)))?;
     }
     base.push(io(2, 1))?;
-    Ok(())
+    Ok(base)
+}
+
+// its extended entries: each bus is the parent of the one before, and the last is below the first
+fn ring_parents(alloc: Global) -> Result<Vec<Part>, AllocError> {
+    let mut ext = Vec::new(alloc);
+    for id in 0..=255u8 {
+        ext.push(Part::Hierarchy(id, 0, id.wrapping_add(1)))?;
+    }
+    Ok(ext)
 }
 
 // each bus is in a ring
@@ -366,12 +396,19 @@ fn ring_findings(alloc: Global) -> Result<Vec<Row>, AllocError> {
 }
 
 #[test]
-fn a_ring_of_all_buses(rt: HostRuntime) -> Result<(), Fail> {
+fn a_ring_of_all_buses(rt: HostRuntime) {
     let alloc = rt.alloc();
-    let tables = ring(alloc)?;
-    let want = ring_findings(alloc)?;
-    same_findings(&rt, alloc, "a ring", &tables, want.as_slice());
-    Ok(())
+    let base = ring_base(alloc).expect(&rt, "no memory");
+    let ext = ring_parents(alloc).expect(&rt, "no memory");
+    let want = ring_findings(alloc).expect(&rt, "no memory");
+    finds_in(
+        &rt,
+        alloc,
+        "a ring",
+        base.as_slice(),
+        ext.as_slice(),
+        want.as_slice(),
+    );
 }
 
 // a table that breaks every rule but the one on revisions
@@ -434,11 +471,10 @@ const EVERY_RULE: &[Row] = &[
 
 // so each pair of rules that one table can break is broken by this one, in their order
 #[test]
-fn rules_come_in_their_order(rt: HostRuntime) -> Result<(), Fail> {
+fn rules_come_in_their_order(rt: HostRuntime) {
     let alloc = rt.alloc();
-    let tables = all_rules(alloc)?;
+    let tables = all_rules(alloc).expect(&rt, "no memory");
     same_findings(&rt, alloc, "every rule", &tables, EVERY_RULE);
-    Ok(())
 }
 
 /// Feature byte 2 of the pointer, byte 43 of the header, and what is found of them.
@@ -448,9 +484,12 @@ const RESERVED: &[(u8, u8, &[Row])] = &[
     (0, 1, &[(15, NO, NO)]),
 ];
 
-// the tables of a processor and an I/O APIC with that feature byte and that byte of the header
-fn with_reserved(alloc: Global, feature: u8, reserved: u8) -> Result<Tables, AllocError> {
-    with_entries(alloc, &[cpu(0, 3), io(2, 1)], &[], feature, reserved)
+// just these findings are made of the tables of a processor and an I/O APIC with that feature byte and that byte of
+// the header
+fn listed_finds(rt: &impl Abort, alloc: Global, feature: u8, reserved: u8, want: &[Row]) {
+    let base = [cpu(0, 3), io(2, 1)];
+    let tables = with_entries(alloc, &base, &[], feature, reserved).expect(rt, "no memory");
+    same_findings(rt, alloc, "of a listed table", &tables, want);
 }
 
 // just these findings are made of a default configuration with the feature bytes 2 and 5
@@ -461,15 +500,13 @@ fn default_finds(rt: &impl Abort, alloc: Global, number: u8, second: u8, fifth: 
 
 // of the pointer's and the header's reserved bits, and of a default configuration
 #[test]
-fn reserved_bits_of_pointer_and_header(rt: HostRuntime) -> Result<(), Fail> {
+fn reserved_bits_of_pointer_and_header(rt: HostRuntime) {
     let alloc = rt.alloc();
     for (feature, reserved, want) in RESERVED {
-        let tables = with_reserved(alloc, *feature, *reserved)?;
-        same_findings(&rt, alloc, "of a listed table", &tables, want);
+        listed_finds(&rt, alloc, *feature, *reserved, want);
     }
     for number in 1..=7u8 {
         default_finds(&rt, alloc, number, 0xC0, 0, &[]);
         default_finds(&rt, alloc, number, 0, 4, &[(15, NO, NO)]);
     }
-    Ok(())
 }

@@ -5,7 +5,7 @@ use crate::harness::same;
 use crate::tables::entry;
 use mpt_route::{Answer, Platform, Route, Why, boot_processor_of, routes};
 use mpt_spec::{Bus, IntEntry, IoApic, Processor, Sequence};
-use std::alloc::{AllocError, Global};
+use std::alloc::Global;
 use std::process::Abort;
 
 // an I/O APIC with an id and flags
@@ -33,50 +33,55 @@ fn bus(id: u8, name: [u8; 6]) -> Bus {
     Bus { id, name }
 }
 
-// a platform of nothing
-fn empty(alloc: Global) -> Platform {
-    Platform {
-        processors: Sequence::new(Vec::new(alloc)),
-        buses: Sequence::new(Vec::new(alloc)),
-        ios: Sequence::new(Vec::new(alloc)),
-        ints: Sequence::new(Vec::new(alloc)),
-        lints: Sequence::new(Vec::new(alloc)),
-        imcr: false,
-        local_address: 0xFEE0_0000,
-    }
-}
-
-// a platform of five buses and six I/O APICs: of these the first is disabled, the fourth has the id of
-// the second, and the last is the fifth that is enabled; bus 0 has a second entry
-fn platform(alloc: Global, ints: &[IntEntry]) -> Result<Platform, AllocError> {
-    let processors = [
+// of these the third is the first with both flags
+fn processors() -> [Processor; 4] {
+    [
         processor(7, 1),
         processor(9, 2),
         processor(3, 3),
         processor(4, 3),
-    ];
-    let buses = [
+    ]
+}
+
+// five buses; bus 0 has a second entry
+fn buses() -> [Bus; 6] {
+    [
         bus(0, *b"PCI   "),
         bus(1, *b"ISA   "),
         bus(2, *b"EISA  "),
         bus(3, *b"VL    "),
         bus(4, *b"MCA   "),
         bus(0, *b"ISA   "),
-    ];
-    let ios = [io(9, 0), io(2, 1), io(4, 1), io(2, 1), io(5, 1), io(6, 1)];
-    let mut platform = empty(alloc);
-    platform.processors = Sequence::new(Vec::from_slice(alloc, &processors)?);
-    platform.buses = Sequence::new(Vec::from_slice(alloc, &buses)?);
-    platform.ios = Sequence::new(Vec::from_slice(alloc, &ios)?);
-    platform.ints = Sequence::new(Vec::from_slice(alloc, ints)?);
-    Ok(platform)
+    ]
 }
 
-fn answers(alloc: Global, ints: &[IntEntry], elcr: u16) -> Option<Vec<Answer>> {
-    match platform(alloc, ints) {
-        Ok(platform) => answers_of(alloc, &platform, elcr),
-        Err(_) => None,
+// six I/O APICs: of these the first is disabled, the fourth has the id of the second, and the last is the
+// fifth that is enabled
+fn ios() -> [IoApic; 6] {
+    [io(9, 0), io(2, 1), io(4, 1), io(2, 1), io(5, 1), io(6, 1)]
+}
+
+// a sequence of these items
+fn sequence<T: Copy + Drop>(rt: &impl Abort, alloc: Global, items: &[T]) -> Sequence<T> {
+    Sequence::new(Vec::from_slice(alloc, items).expect(rt, "no memory"))
+}
+
+// a platform of the processors, buses and I/O APICs above, and these interrupts
+fn platform(rt: &impl Abort, alloc: Global, ints: &[IntEntry]) -> Platform {
+    Platform {
+        processors: sequence(rt, alloc, &processors()),
+        buses: sequence(rt, alloc, &buses()),
+        ios: sequence(rt, alloc, &ios()),
+        ints: sequence(rt, alloc, ints),
+        lints: Sequence::new(Vec::new(alloc)),
+        imcr: false,
+        local_address: 0xFEE0_0000,
     }
+}
+
+fn answers(rt: &impl Abort, alloc: Global, ints: &[IntEntry], elcr: u16) -> Vec<Answer> {
+    let platform = platform(rt, alloc, ints);
+    answers_of(alloc, &platform, elcr).expect(rt, "no answers")
 }
 
 fn answers_of(alloc: Global, platform: &Platform, elcr: u16) -> Option<Vec<Answer>> {
@@ -95,8 +100,8 @@ fn answers_at(answers: &[Answer], at: usize, expected: Answer) -> bool {
 }
 
 // the reason told for an entry behind one that takes pin 3 of the I/O APIC with id 4
-fn reason(alloc: Global, e: IntEntry) -> Option<Why> {
-    let answers = answers(alloc, &[entry(0, 5, 3, 1, 4, 3), e], 0)?;
+fn reason(rt: &impl Abort, alloc: Global, e: IntEntry) -> Option<Why> {
+    let answers = answers(rt, alloc, &[entry(0, 5, 3, 1, 4, 3), e], 0);
     match answers.get(1) {
         Some(Answer::Unrouted { why, .. }) => Some(*why),
         _ => None,
@@ -105,7 +110,7 @@ fn reason(alloc: Global, e: IntEntry) -> Option<Why> {
 
 // the reason of an entry
 fn same_reason(rt: &impl Abort, alloc: Global, e: IntEntry, why: Why) {
-    let is_told = reason(alloc, e) == Some(why);
+    let is_told = reason(rt, alloc, e) == Some(why);
     same(rt, "the reason of an entry", (e, is_told), (e, true));
 }
 
@@ -117,9 +122,7 @@ fn same_answer(rt: &impl Abort, answers: &[Answer], at: u32, expected: Answer) {
 
 // the only answer to an entry that stands alone, with the ELCR 0020h
 fn same_row(rt: &impl Abort, alloc: Global, e: IntEntry, expected: Answer) {
-    let Some(answers) = answers(alloc, &[e], 0x0020) else {
-        panic!(rt; "no memory");
-    };
+    let answers = answers(rt, alloc, &[e], 0x0020);
     let is_told = answers_at(answers.as_slice(), 0, expected);
     same(
         rt,
@@ -149,7 +152,7 @@ fn each_reason_is_told_alone(rt: HostRuntime) {
     for (row, why) in rows {
         same_reason(&rt, alloc, row, why);
     }
-    let routed = reason(alloc, entry(0, 5, 3, 1, 4, 4));
+    let routed = reason(&rt, alloc, entry(0, 5, 3, 1, 4, 4));
     same(&rt, "no reason", routed.is_none(), true);
 }
 
@@ -228,21 +231,7 @@ fn rows_follow_bus_and_flags(rt: HostRuntime) {
     }
 }
 
-// an unrouted entry takes no pin, and the first routed one decides what later ones are told
-#[test]
-fn the_first_routed_entry_has_the_pin(rt: HostRuntime) {
-    let alloc = rt.alloc();
-    let ints = [
-        entry(4, 5, 1, 1, 4, 3),
-        entry(0, 5, 1, 1, 4, 3),
-        entry(0, 7, 1, 1, 4, 3),
-        entry(0, 7, 1, 1, 4, 3),
-        entry(0, 5, 1, 1, 4, 3),
-        entry(0, 5, 1, 1, 5, 3),
-    ];
-    let Some(answers) = answers(alloc, &ints, 0) else {
-        panic!(rt; "no memory");
-    };
+fn later_ones_are_told(rt: &impl Abort, answers: &[Answer]) {
     let told = [
         (0, Why::UnknownKind),
         (2, Why::Clash),
@@ -250,9 +239,11 @@ fn the_first_routed_entry_has_the_pin(rt: HostRuntime) {
         (4, Why::Shared),
     ];
     for (at, why) in told {
-        let expected = Answer::Unrouted { entry: at, why };
-        same_answer(&rt, answers.as_slice(), at, expected);
+        same_answer(rt, answers, at, Answer::Unrouted { entry: at, why });
     }
+}
+
+fn routed_ones_have_their_rows(rt: &impl Abort, answers: &[Answer]) {
     for (at, io, vector) in [(1, 1, 0x3B), (5, 3, 0x6B)] {
         let expected = Answer::Routed(Route {
             io,
@@ -262,18 +253,34 @@ fn the_first_routed_entry_has_the_pin(rt: HostRuntime) {
             high: 0x0300_0000,
             entry: at,
         });
-        same_answer(&rt, answers.as_slice(), at, expected);
+        same_answer(rt, answers, at, expected);
     }
+}
+
+// an unrouted entry takes no pin, and the first routed one decides what later ones are told
+#[test]
+fn the_first_routed_entry_has_the_pin(rt: HostRuntime) {
+    let ints = [
+        entry(4, 5, 1, 1, 4, 3),
+        entry(0, 5, 1, 1, 4, 3),
+        entry(0, 7, 1, 1, 4, 3),
+        entry(0, 7, 1, 1, 4, 3),
+        entry(0, 5, 1, 1, 4, 3),
+        entry(0, 5, 1, 1, 5, 3),
+    ];
+    let answers = answers(&rt, rt.alloc(), &ints, 0);
+    later_ones_are_told(&rt, answers.as_slice());
+    routed_ones_have_their_rows(&rt, answers.as_slice());
+}
+
+// the local APIC id of the processor that boots
+fn boot_id(rt: &impl Abort, p: &Platform) -> u8 {
+    boot_processor_of(p).expect(rt, "no boot processor").apic
 }
 
 // a processor with BP alone, or EN alone, doesn't boot; the first with both does
 #[test]
 fn the_first_processor_with_both_flags_boots(rt: HostRuntime) {
-    let Ok(platform) = platform(rt.alloc(), &[]) else {
-        panic!(rt; "no memory");
-    };
-    let Some(boot) = boot_processor_of(&platform) else {
-        panic!(rt; "no boot processor");
-    };
-    same(&rt, "the boot processor", boot.apic, 3);
+    let platform = platform(&rt, rt.alloc(), &[]);
+    same(&rt, "the boot processor", boot_id(&rt, &platform), 3);
 }
