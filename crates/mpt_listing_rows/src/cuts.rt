@@ -1,6 +1,6 @@
 //! Listings that end anywhere, or of which one byte is another.
 
-use crate::harness::{Answer, answer_to, same};
+use crate::harness::{Answer, answer_to, expect, same};
 use crate::texts::all_texts;
 use std::alloc::Global;
 use std::process::Abort;
@@ -43,13 +43,16 @@ fn cut_at_each_byte(rt: HostRuntime) {
 
 /// A byte that stands in no listing is Form at its line, at each place.
 fn same_wrong_bytes(rt: &impl Abort, alloc: Global, text: &[u8]) {
-    let Ok(mut changed) = Vec::from_slice(alloc, text) else {
-        panic!(rt; "out of memory");
-    };
+    let mut changed = expect(rt, "out of memory", Vec::from_slice(alloc, text));
+    same_wrong_bytes_in(rt, alloc, text, changed.as_mut_slice());
+}
+
+/// The same, with a copy of the text in which the byte is put.
+fn same_wrong_bytes_in(rt: &impl Abort, alloc: Global, text: &[u8], changed: &mut [u8]) {
     let mut line = 1u32;
     let mut place = 0usize;
     for byte in text {
-        let answer = answer_with(alloc, changed.as_mut_slice(), place, *byte);
+        let answer = answer_with(alloc, changed, place, *byte);
         let want = Answer::Form(line);
         same(rt, "a wrong byte", (place, answer), (place, want));
         if *byte == b'\n' {

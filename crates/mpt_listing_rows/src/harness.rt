@@ -11,6 +11,18 @@ pub(crate) fn same<T: PartialEq + Debug + Drop>(rt: &impl Abort, name: &str, got
     assert_eq!(rt; got, want, "{name}");
 }
 
+/// What a call gave, or the end of the test where it failed.
+pub(crate) fn expect<T: Drop, E: Debug + Drop>(
+    rt: &impl Abort,
+    otherwise: &str,
+    answer: Result<T, E>,
+) -> T {
+    match answer {
+        Ok(value) => value,
+        Err(error) => panic!(rt; "{otherwise}: {error:?}"),
+    }
+}
+
 /// The longest text that is asked about.
 const LIMIT: usize = 4_194_304;
 
@@ -68,14 +80,13 @@ fn answer_of(fault: ListingFault) -> Answer {
     }
 }
 
-/// The text with another line in the place of the one of this number, or behind all of them.
-pub(crate) fn with_line(
-    alloc: Global,
+/// Appends the text with another line in the place of the one of this number, or behind all of them.
+fn push_with_line(
+    out: &mut Vec<u8>,
     text: &[u8],
     number: usize,
     line: &[u8],
-) -> Result<Vec<u8>, AllocError> {
-    let mut out = Vec::new(alloc);
+) -> Result<(), AllocError> {
     let mut at = 1usize;
     if at == number {
         out.extend_from_slice(line)?;
@@ -91,7 +102,7 @@ pub(crate) fn with_line(
             }
         }
     }
-    Ok(out)
+    Ok(())
 }
 
 /// The answer to each row's text.
@@ -102,9 +113,9 @@ pub(crate) fn same_answers(rt: &impl Abort, alloc: Global, text: &[u8], rows: &[
 }
 
 fn same_answer(rt: &impl Abort, alloc: Global, text: &[u8], row: &Row) {
-    let Ok(changed) = with_line(alloc, text, row.number, row.line) else {
-        panic!(rt; "out of memory");
-    };
+    let mut changed = Vec::new(alloc);
+    let pushed = push_with_line(&mut changed, text, row.number, row.line);
+    expect(rt, "out of memory", pushed);
     let answer = answer_to(alloc, changed.as_slice());
     same(rt, row.name, answer, row.answer);
 }

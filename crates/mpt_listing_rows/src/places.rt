@@ -1,6 +1,6 @@
 //! Tables at each bound of an image of 1 MiB, and parts at the bound of what 16 bits can say.
 
-use crate::harness::{Answer, Row, answer_to, same, same_answers};
+use crate::harness::{Answer, Row, answer_to, expect, same, same_answers};
 use crate::texts::{default_text, one_processor_text, usual_board_text};
 use std::alloc::{AllocError, Global};
 use std::process::Abort;
@@ -177,8 +177,7 @@ fn push_opaque(out: &mut Vec<u8>, bytes: usize) -> Result<(), AllocError> {
     for _ in 0..bytes {
         out.extend_from_slice(b"5A")?;
     }
-    out.extend_from_slice(b"\n")?;
-    Ok(())
+    out.extend_from_slice(b"\n")
 }
 
 /// A large table: so many buses of 8 bytes each behind a header of 44, and an extended part of so many
@@ -191,22 +190,22 @@ struct Large {
     answer: Answer,
 }
 
-fn listing_of(alloc: Global, large: &Large) -> Result<Vec<u8>, AllocError> {
-    let mut text = Vec::from_slice(alloc, LARGE)?;
+// the listing of a large table
+fn push_large(text: &mut Vec<u8>, large: &Large) -> Result<(), AllocError> {
+    text.extend_from_slice(LARGE)?;
     for _ in 0..large.buses {
         text.extend_from_slice(b"bus id 00 name \"ISA   \"\n")?;
     }
     for _ in 0..large.opaque {
-        push_opaque(&mut text, 253)?;
+        push_opaque(text, 253)?;
     }
     if large.last != 0 {
-        push_opaque(&mut text, large.last)?;
+        push_opaque(text, large.last)?;
     }
     for _ in 0..large.bare {
         text.extend_from_slice(b"opaque kind 83 rest -\n")?;
     }
-    text.extend_from_slice(b"end\n")?;
-    Ok(text)
+    text.extend_from_slice(b"end\n")
 }
 
 const LARGE_TABLES: &[Large] = &[
@@ -291,9 +290,8 @@ const LARGE_TABLES: &[Large] = &[
 
 // the answer to a large table
 fn same_large(rt: &impl Abort, alloc: Global, large: &Large) {
-    let Ok(text) = listing_of(alloc, large) else {
-        panic!(rt; "out of memory");
-    };
+    let mut text = Vec::new(alloc);
+    expect(rt, "out of memory", push_large(&mut text, large));
     let answer = answer_to(alloc, text.as_slice());
     let row = (large.buses, large.opaque, large.last, large.bare);
     same(rt, "a large table", (row, answer), (row, large.answer));

@@ -5,8 +5,8 @@ use crate::revision_images::{POINTER_1, POINTER_4, TABLE_1, TABLE_4};
 use crate::revisions::{image_of, put};
 use mpt_base::{Fault, Reason};
 use mpt_table::{Refusal, read};
-use std::alloc::{AllocError, Global};
-use std::test::Fail;
+use std::alloc::Global;
+use std::process::Abort;
 
 /// A byte of a table of revision 1 or 4 that is another, so that the table is refused.
 struct Row {
@@ -103,12 +103,12 @@ const ROWS: &[Row] = &[
 ];
 
 // the image of a row
-fn image_with(alloc: Global, row: &Row) -> Result<Vec<u8>, AllocError> {
-    let mut image = image_of(alloc, &POINTER_1, row.table)?;
+fn image_with(rt: &impl Abort, alloc: Global, row: &Row) -> Vec<u8> {
+    let mut image = image_of(rt, alloc, &POINTER_1, row.table);
     let bytes = image.as_mut_slice();
     put(bytes, row.byte.0, &[row.byte.1]);
     put(bytes, 0x517, &[row.checksum]);
-    Ok(image)
+    image
 }
 
 // the fault of an image, none where it has none
@@ -120,18 +120,17 @@ fn fault_of(alloc: Global, image: &[u8]) -> Option<Fault> {
 }
 
 #[test]
-fn faults_of_tables(rt: HostRuntime) -> Result<(), Fail> {
+fn faults_of_tables(rt: HostRuntime) {
     for row in ROWS {
-        let image = image_with(rt.alloc(), row)?;
+        let image = image_with(&rt, rt.alloc(), row);
         let fault = fault_of(rt.alloc(), image.as_slice());
         same(&rt, row.name, fault, Some(row.fault));
     }
-    Ok(())
 }
 
 #[test]
-fn a_pointer_of_revision_2_is_refused(rt: HostRuntime) -> Result<(), Fail> {
-    let mut image = image_of(rt.alloc(), &POINTER_4, &TABLE_1)?;
+fn a_pointer_of_revision_2_is_refused(rt: HostRuntime) {
+    let mut image = image_of(&rt, rt.alloc(), &POINTER_4, &TABLE_1);
     put(image.as_mut_slice(), 0x509, &[2, 0x8D]);
     let fault = fault_of(rt.alloc(), image.as_slice());
     let want = Fault {
@@ -139,5 +138,4 @@ fn a_pointer_of_revision_2_is_refused(rt: HostRuntime) -> Result<(), Fail> {
         why: Reason::BadRevision,
     };
     same(&rt, "revision 2", fault, Some(want));
-    Ok(())
 }

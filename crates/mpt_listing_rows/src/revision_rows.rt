@@ -1,13 +1,13 @@
 //! Tables of either revision under a floating pointer of either, all four worked out by hand: what each lists, and
 //! what becomes of it.
 
-use crate::harness::same;
+use crate::harness::{expect, same};
 use crate::revision_images::{
     CLEAR_LINE_1, CLEAR_LINE_4, HEADER_LINE_1, HEADER_LINE_4, POINTER_1, POINTER_4, POINTER_LINE_1,
     POINTER_LINE_4, TABLE_1, TABLE_4,
 };
 use crate::revisions::{image_of, listing, lists, tables_in_file};
-use mpt_audit::audit;
+use mpt_audit::{Finding, audit};
 use mpt_base::MemShelf;
 use mpt_parse::parse;
 use mpt_spec::Tables;
@@ -15,7 +15,6 @@ use mpt_table::read;
 use mpt_write::{canon, raise, well_formed, write_image};
 use std::alloc::Global;
 use std::process::Abort;
-use std::test::Fail;
 
 /// Where a finding names no entry.
 const NO: u32 = 65_535;
@@ -74,48 +73,44 @@ const ROWS: &[Row] = &[
     },
 ];
 
+fn rows() -> &'static [Row] {
+    ROWS
+}
+
 // the tables of a row's image
 fn tables_of(rt: &impl Abort, alloc: Global, row: &Row) -> Tables {
-    let Ok(image) = image_of(alloc, row.pointer, row.table) else {
-        panic!(rt; "no memory");
-    };
-    let Ok(tables) = read(alloc, image.as_slice()) else {
-        panic!(rt; "refused");
-    };
-    tables
+    let image = image_of(rt, alloc, row.pointer, row.table);
+    expect(rt, "refused", read(alloc, image.as_slice()))
 }
 
 #[test]
-fn are_read_and_listed(rt: HostRuntime) -> Result<(), Fail> {
-    for row in ROWS {
+fn are_read_and_listed(rt: HostRuntime) {
+    for row in rows() {
         let tables = tables_of(&rt, rt.alloc(), row);
         lists(&rt, rt.alloc(), row.name, &tables, row.lines);
     }
-    Ok(())
+}
+
+// puts a row's image on a shelf
+fn add_image(rt: &impl Abort, alloc: Global, shelf: &mut MemShelf, row: &Row) {
+    let image = image_of(rt, alloc, row.pointer, row.table);
+    let added = shelf.add("image", image.as_slice());
+    expect(rt, "no memory", added);
 }
 
 // the tables of a row's image as a file
 fn tables_in(rt: &impl Abort, alloc: Global, row: &Row) -> Tables {
-    let Ok(image) = image_of(alloc, row.pointer, row.table) else {
-        panic!(rt; "no memory");
-    };
     let mut shelf = MemShelf::new(alloc);
-    let Ok(()) = shelf.add("image", image.as_slice()) else {
-        panic!(rt; "no memory");
-    };
-    let Some(tables) = tables_in_file(alloc, &mut shelf, "image") else {
-        panic!(rt; "refused");
-    };
-    tables
+    add_image(rt, alloc, &mut shelf, row);
+    tables_in_file(rt, alloc, &mut shelf, "image")
 }
 
 #[test]
-fn are_read_by_windows(rt: HostRuntime) -> Result<(), Fail> {
-    for row in ROWS {
+fn are_read_by_windows(rt: HostRuntime) {
+    for row in rows() {
         let tables = tables_in(&rt, rt.alloc(), row);
         lists(&rt, rt.alloc(), row.name, &tables, row.lines);
     }
-    Ok(())
 }
 
 // just these rules are broken, each by no entry
@@ -123,71 +118,79 @@ fn breaks(rt: &impl Abort, alloc: Global, name: &str, tables: &Tables, rules: &[
     if !well_formed(tables) {
         panic!(rt; "not well formed");
     }
-    let Ok(found) = audit(alloc, tables) else {
-        panic!(rt; "no memory");
-    };
+    let found = expect(rt, "no memory", audit(alloc, tables));
+    same_rules(rt, name, found.as_slice(), rules);
+}
+
+fn same_rules(rt: &impl Abort, name: &str, found: &[Finding], rules: &[u8]) {
     same(rt, name, found.len(), rules.len());
-    for (finding, rule) in found.as_slice().iter().zip(rules.iter()) {
-        same(
-            rt,
-            name,
-            (finding.rule, finding.entry, finding.other),
-            (*rule, NO, NO),
-        );
+    let mut place = 0usize;
+    for rule in rules {
+        let want = Some((*rule, NO, NO));
+        same(rt, name, parts_of(found.get(place)), want);
+        place = place.saturating_add(1);
+    }
+}
+
+// the rule of a finding, and its two entries
+fn parts_of(finding: Option<&Finding>) -> Option<(u8, u32, u32)> {
+    match finding {
+        Some(found) => Some((found.rule, found.entry, found.other)),
+        None => None,
     }
 }
 
 #[test]
-fn are_audited(rt: HostRuntime) -> Result<(), Fail> {
-    for row in ROWS {
+fn are_audited(rt: HostRuntime) {
+    for row in rows() {
         let tables = tables_of(&rt, rt.alloc(), row);
         breaks(&rt, rt.alloc(), row.name, &tables, row.rules);
     }
-    Ok(())
 }
 
 #[test]
-fn are_made_canonical(rt: HostRuntime) -> Result<(), Fail> {
-    for row in ROWS {
+fn are_made_canonical(rt: HostRuntime) {
+    for row in rows() {
         let tables = tables_of(&rt, rt.alloc(), row);
-        let Ok(canonical) = canon(rt.alloc(), tables) else {
-            panic!(rt; "no memory");
-        };
+        let canonical = expect(&rt, "no memory", canon(rt.alloc(), tables));
         let lines = (row.lines.0, row.canonical);
         lists(&rt, rt.alloc(), row.name, &canonical, lines);
     }
-    Ok(())
 }
 
 #[test]
-fn are_raised(rt: HostRuntime) -> Result<(), Fail> {
-    for row in ROWS {
+fn are_raised(rt: HostRuntime) {
+    for row in rows() {
         let mut tables = tables_of(&rt, rt.alloc(), row);
-        if !well_formed(&tables) {
-            panic!(rt; "not well formed");
-        }
-        raise(&mut tables);
+        raise_tables(&rt, &mut tables);
         let lines = (POINTER_LINE_4, row.raised);
         lists(&rt, rt.alloc(), row.name, &tables, lines);
     }
-    Ok(())
+}
+
+// raises well formed tables
+fn raise_tables(rt: &impl Abort, tables: &mut Tables) {
+    if !well_formed(tables) {
+        panic!(rt; "not well formed");
+    }
+    raise(tables);
 }
 
 // the image that is built of a row's listing
 fn built(rt: &impl Abort, alloc: Global, row: &Row) -> Vec<u8> {
-    let Ok(text) = listing(alloc, row.lines.0, row.lines.1) else {
-        panic!(rt; "no memory");
-    };
+    let text = listing(rt, alloc, row.lines);
+    built_of(rt, alloc, text.as_slice())
+}
+
+// the image that is built of a listing
+fn built_of(rt: &impl Abort, alloc: Global, text: &[u8]) -> Vec<u8> {
     if text.len() > 1_000_000 {
         panic!(rt; "too long");
     }
-    let Ok(tables) = parse(alloc, text.as_slice()) else {
+    let Ok(tables) = parse(alloc, text) else {
         panic!(rt; "refused");
     };
-    let Ok(image) = write_image(alloc, &tables) else {
-        panic!(rt; "no memory");
-    };
-    image
+    expect(rt, "no memory", write_image(alloc, &tables))
 }
 
 // an image has bytes at a place
@@ -199,14 +202,17 @@ fn has_at(rt: &impl Abort, name: &str, image: &[u8], at: usize, bytes: &[u8]) {
 }
 
 #[test]
-fn are_built_byte_for_byte(rt: HostRuntime) -> Result<(), Fail> {
-    for row in ROWS {
+fn are_built_byte_for_byte(rt: HostRuntime) {
+    for row in rows() {
         let image = built(&rt, rt.alloc(), row);
-        let bytes = image.as_slice();
-        has_at(&rt, row.name, bytes, 0x40E, &[0x50, 0x00]);
-        has_at(&rt, row.name, bytes, 0x500, row.pointer);
-        has_at(&rt, row.name, bytes, 0x510, row.table);
-        has_at(&rt, row.name, bytes, 0x550, &[0; 16]);
+        same_parts(&rt, row, image.as_slice());
     }
-    Ok(())
+}
+
+// the parts of the image that is built of a row's listing
+fn same_parts(rt: &impl Abort, row: &Row, image: &[u8]) {
+    has_at(rt, row.name, image, 0x40E, &[0x50, 0x00]);
+    has_at(rt, row.name, image, 0x500, row.pointer);
+    has_at(rt, row.name, image, 0x510, row.table);
+    has_at(rt, row.name, image, 0x550, &[0; 16]);
 }

@@ -1,20 +1,18 @@
 //! What the rows of revisions stand on: images and listings of their parts.
 
-use crate::harness::same;
+use crate::harness::{expect, same};
 use crate::revision_images::PROCESSOR_LINE;
-use mpt_base::Shelf;
+use mpt_base::{Shelf, put_bytes};
 use mpt_listing::print;
 use mpt_spec::Tables;
 use mpt_table::read_from;
 use std::alloc::{AllocError, Global};
 use std::process::Abort;
 
-/// Writes bytes at a place. What passes the end is left out.
+/// Writes bytes at a place, and nothing where they pass the end.
 pub(crate) fn put(image: &mut [u8], at: usize, bytes: &[u8]) {
-    if let Some(rest) = image.get_mut(at..) {
-        for (cell, byte) in rest.iter_mut().zip(bytes.iter()) {
-            *cell = *byte;
-        }
+    if at <= image.len() && bytes.len() <= image.len() - at {
+        put_bytes(image, at, bytes);
     }
 }
 
@@ -23,24 +21,29 @@ fn zeros(alloc: Global, len: usize) -> Result<Vec<u8>, AllocError> {
 }
 
 /// An image of 1,360 bytes: the EBDA at 500h, the floating pointer there, the table behind it.
-pub(crate) fn image_of(alloc: Global, pointer: &[u8], table: &[u8]) -> Result<Vec<u8>, AllocError> {
-    let mut image = zeros(alloc, 1360)?;
+pub(crate) fn image_of(rt: &impl Abort, alloc: Global, pointer: &[u8], table: &[u8]) -> Vec<u8> {
+    let mut image = expect(rt, "no memory", zeros(alloc, 1360));
     let bytes = image.as_mut_slice();
     put(bytes, 0x40E, &[0x50]);
     put(bytes, 0x500, pointer);
     put(bytes, 0x510, table);
-    Ok(image)
+    image
 }
 
-/// The listing with these lines of the floating pointer and the header.
-pub(crate) fn listing(alloc: Global, pointer: &[u8], header: &[u8]) -> Result<Vec<u8>, AllocError> {
-    let mut text = Vec::new(alloc);
+fn push_listing(text: &mut Vec<u8>, pointer: &[u8], header: &[u8]) -> Result<(), AllocError> {
     text.extend_from_slice(b"mptable 1\n")?;
     text.extend_from_slice(pointer)?;
     text.extend_from_slice(header)?;
     text.extend_from_slice(PROCESSOR_LINE)?;
-    text.extend_from_slice(b"end\n")?;
-    Ok(text)
+    text.extend_from_slice(b"end\n")
+}
+
+/// The listing with these lines of the floating pointer and the header.
+pub(crate) fn listing(rt: &impl Abort, alloc: Global, lines: (&[u8], &[u8])) -> Vec<u8> {
+    let mut text = Vec::new(alloc);
+    let pushed = push_listing(&mut text, lines.0, lines.1);
+    expect(rt, "no memory", pushed);
+    text
 }
 
 /// The tables have the listing with these lines.
@@ -51,22 +54,20 @@ pub(crate) fn lists(
     tables: &Tables,
     lines: (&[u8], &[u8]),
 ) {
-    let Ok(text) = print(alloc, tables) else {
-        panic!(rt; "no memory");
-    };
-    let Ok(want) = listing(alloc, lines.0, lines.1) else {
-        panic!(rt; "no memory");
-    };
+    let text = expect(rt, "no memory", print(alloc, tables));
+    let want = listing(rt, alloc, lines);
     same(rt, name, text.as_slice(), want.as_slice());
 }
 
 /// The tables by windows of a file.
-pub(crate) fn tables_in_file<S: Shelf>(alloc: Global, shelf: &mut S, name: &str) -> Option<Tables> {
+pub(crate) fn tables_in_file(
+    rt: &impl Abort,
+    alloc: Global,
+    shelf: &mut impl Shelf,
+    name: &str,
+) -> Tables {
     let Ok(Some(size)) = shelf.size(name) else {
-        return None;
+        panic!(rt; "no size");
     };
-    match read_from(alloc, shelf, name, size) {
-        Ok(tables) => Some(tables),
-        Err(_) => None,
-    }
+    expect(rt, "refused", read_from(alloc, shelf, name, size))
 }

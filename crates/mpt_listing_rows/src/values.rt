@@ -1,23 +1,19 @@
 //! Listings that are accepted: the tables that they say, and their text again.
 
-use crate::harness::{same, tables_of};
+use crate::harness::{expect, same, tables_of};
 use crate::texts::{all_texts, default_text, every_form_text};
 use mpt_listing::print;
 use mpt_spec::{
     Base, Body, Bus, Ext, Hierarchy, IntEntry, IoApic, Modifier, Pointer, Processor, Space, Table,
+    Tables,
 };
 use std::alloc::Global;
 use std::process::Abort;
-use std::test::Fail;
 
 // the text of the tables that a text says
 fn same_again(rt: &impl Abort, alloc: Global, text: &[u8]) {
-    let Ok(tables) = tables_of(alloc, text) else {
-        panic!(rt; "not accepted");
-    };
-    let Ok(again) = print(alloc, &tables) else {
-        panic!(rt; "out of memory");
-    };
+    let tables = expect(rt, "not accepted", tables_of(alloc, text));
+    let again = expect(rt, "out of memory", print(alloc, &tables));
     same(rt, "the text again", again.as_slice(), text);
 }
 
@@ -28,21 +24,26 @@ fn texts_come_again(rt: HostRuntime) {
     }
 }
 
-#[test]
-fn default_configuration(rt: HostRuntime) -> Result<(), Fail> {
-    let tables = tables_of(rt.alloc(), default_text())?;
-    same(&rt, "the place", tables.at, 0x9FC00);
+// the tables of a default configuration
+fn same_default(rt: &impl Abort, tables: &Tables) {
+    same(rt, "the place", tables.at, 0x9FC00);
     let pointer = Pointer {
         address: 0,
         revision: 4,
         features: [5, 0x80, 0, 0, 1],
     };
-    same(&rt, "the pointer", tables.pointer, pointer);
+    same(rt, "the pointer", tables.pointer, pointer);
     let Body::Default(number) = &tables.body else {
         panic!(rt; "a listed table");
     };
-    same(&rt, "the default configuration", *number, 5);
-    Ok(())
+    same(rt, "the default configuration", *number, 5);
+}
+
+#[test]
+fn default_configuration(rt: HostRuntime) {
+    let tables = tables_of(rt.alloc(), default_text());
+    let tables = expect(&rt, "not accepted", tables);
+    same_default(&rt, &tables);
 }
 
 /// The base entries of the listing with a line of each form.
@@ -138,8 +139,8 @@ fn same_opaque(rt: &impl Abort, entry: Option<&Ext>, kind: u8, rest: &[u8]) {
     let Some(Ext::Opaque(opaque)) = entry else {
         panic!(rt; "no opaque entry");
     };
-    let got = (opaque.kind, opaque.rest.as_slice());
-    same(rt, "an opaque entry", got, (kind, rest));
+    same(rt, "the type of an opaque entry", opaque.kind, kind);
+    same(rt, "its rest", opaque.rest.as_slice(), rest);
 }
 
 // the table of that listing
@@ -156,19 +157,24 @@ fn same_table(rt: &impl Abort, table: &Table) {
     same_ext(rt, table.ext.as_slice());
 }
 
-#[test]
-fn every_form(rt: HostRuntime) -> Result<(), Fail> {
-    let tables = tables_of(rt.alloc(), every_form_text())?;
-    same(&rt, "the place", tables.at, 0xF0000);
+// the tables of that listing
+fn same_listed(rt: &impl Abort, tables: &Tables) {
+    same(rt, "the place", tables.at, 0xF0000);
     let pointer = Pointer {
         address: 0xE0000,
         revision: 4,
         features: [0, 0x80, 0xFF, 0, 1],
     };
-    same(&rt, "the pointer", tables.pointer, pointer);
+    same(rt, "the pointer", tables.pointer, pointer);
     let Body::Listed(table) = &tables.body else {
         panic!(rt; "a default configuration");
     };
-    same_table(&rt, table);
-    Ok(())
+    same_table(rt, table);
+}
+
+#[test]
+fn every_form(rt: HostRuntime) {
+    let tables = tables_of(rt.alloc(), every_form_text());
+    let tables = expect(&rt, "not accepted", tables);
+    same_listed(&rt, &tables);
 }

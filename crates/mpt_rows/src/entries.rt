@@ -1,6 +1,6 @@
 //! Entries spelled out by hand from the figures of MultiProcessor Specification 1.4, chapter 4.
 
-use crate::harness::same;
+use crate::harness::{expect, same};
 use mpt_base::{Fault, Reason};
 use mpt_entries::{
     Base, Bus, Ext, Hierarchy, IntEntry, IoApic, Modifier, Processor, Space, Stop, read_base,
@@ -19,9 +19,7 @@ fn same_base(rt: &impl Abort, alloc: Global, bytes: &[u8], from: usize, to: usiz
     if from > to || to > bytes.len() {
         panic!(rt; "the range is not in the bytes");
     }
-    let Ok(entries) = read_base(alloc, bytes, from, to) else {
-        panic!(rt; "not read");
-    };
+    let entries = expect(rt, "not read", read_base(alloc, bytes, from, to));
     same(rt, "the base entries", entries.as_slice(), want);
 }
 
@@ -71,12 +69,8 @@ fn same_opaque(rt: &impl Abort, entry: Option<&Ext>, kind: u8, rest: &[u8]) {
     let Some(Ext::Opaque(opaque)) = entry else {
         panic!(rt; "no entry of another type");
     };
-    same(
-        rt,
-        "an entry of another type",
-        (opaque.kind, opaque.rest.as_slice()),
-        (kind, rest),
-    );
+    same(rt, "the type of another entry", opaque.kind, kind);
+    same(rt, "its rest", opaque.rest.as_slice(), rest);
 }
 
 // the fault of the base entries that the bytes are said to be
@@ -228,16 +222,18 @@ fn reads_each_extended_entry_in_a_range(rt: HostRuntime) {
         0xC5, 0x05, 0x51, 0x52, 0x53, // one with three bytes
         0x00, // behind the range
     ];
-    let Ok(entries) = read_ext(rt.alloc(), &bytes, 1, 44) else {
-        panic!(rt; "not read");
-    };
-    same(&rt, "how many entries", entries.len(), 5);
-    let found = entries.as_slice();
-    same_space(&rt, found.first());
-    same_hierarchy(&rt, found.get(1));
-    same_modifier(&rt, found.get(2));
-    same_opaque(&rt, found.get(3), 0x83, &[]);
-    same_opaque(&rt, found.get(4), 0xC5, &[0x51, 0x52, 0x53]);
+    let entries = expect(&rt, "not read", read_ext(rt.alloc(), &bytes, 1, 44));
+    same_ext(&rt, entries.as_slice());
+}
+
+// the extended entries of the row
+fn same_ext(rt: &impl Abort, found: &[Ext]) {
+    same(rt, "how many entries", found.len(), 5);
+    same_space(rt, found.first());
+    same_hierarchy(rt, found.get(1));
+    same_modifier(rt, found.get(2));
+    same_opaque(rt, found.get(3), 0x83, &[]);
+    same_opaque(rt, found.get(4), 0xC5, &[0x51, 0x52, 0x53]);
 }
 
 #[test]
@@ -245,9 +241,7 @@ fn reads_the_longest_extended_entry(rt: HostRuntime) {
     let mut bytes = [0x5A; 255];
     bytes[0] = 0xFF;
     bytes[1] = 0xFF;
-    let Ok(entries) = read_ext(rt.alloc(), &bytes, 0, 255) else {
-        panic!(rt; "not read");
-    };
+    let entries = expect(&rt, "not read", read_ext(rt.alloc(), &bytes, 0, 255));
     same(&rt, "how many entries", entries.len(), 1);
     same_opaque(&rt, entries.as_slice().first(), 0xFF, &[0x5A; 253]);
 }

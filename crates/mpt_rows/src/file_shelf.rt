@@ -1,11 +1,10 @@
 //! The shelf over the files of the operating system, on files that each test writes where it runs.
 
-use crate::harness::{same, same_size};
+use crate::harness::{expect, same, same_size};
 use mpt_base::{Failed, FileShelf, Shelf};
 use std::fs;
 use std::process::Abort;
 use std::rt::Files;
-use std::test::Fail;
 
 // what a shelf answers to a read of a file from a place
 fn same_read(
@@ -20,56 +19,76 @@ fn same_read(
     same(rt, name, (at, got), (at, want));
 }
 
+// writes a file
+fn write<R: Files + Abort>(rt: &R, name: &str, bytes: &[u8]) {
+    expect(rt, "the file is not written", fs::write(rt, name, bytes));
+}
+
 // puts another file in the place of one
 fn replace<R: Files + Abort>(rt: &R, name: &str) {
-    let written = fs::write(rt, "other", b"new");
-    same(rt, "the other file is written", written.is_ok(), true);
-    let renamed = fs::rename(rt, "other", name);
-    same(rt, "and gets the name", renamed.is_ok(), true);
+    write(rt, "other", b"new");
+    expect(rt, "it gets no name", fs::rename(rt, "other", name));
 }
 
-#[test]
-fn files_are_found_by_their_names(rt: HostRuntime) -> Result<(), Fail> {
-    fs::write(&rt, "five", b"01234")?;
-    fs::write(&rt, "three", b"xyz")?;
-    let mut shelf = FileShelf::new(&rt, rt.alloc());
-    same_size(&rt, &mut shelf, "five", Ok(Some(5)));
-    same_size(&rt, &mut shelf, "three", Ok(Some(3)));
-    same_size(&rt, &mut shelf, "absent", Ok(None));
-    same_size(&rt, &mut shelf, "five", Ok(Some(5)));
-    same_size(&rt, &mut shelf, "five/below", Err(Failed));
-    same_size(&rt, &mut shelf, ".", Err(Failed));
+// the sizes of two files, of one that is absent, and of names that are no files
+fn sizes_are_told(rt: &impl Abort, shelf: &mut impl Shelf) {
+    same_size(rt, shelf, "five", Ok(Some(5)));
+    same_size(rt, shelf, "three", Ok(Some(3)));
+    same_size(rt, shelf, "absent", Ok(None));
+    same_size(rt, shelf, "five", Ok(Some(5)));
+    same_size(rt, shelf, "five/below", Err(Failed));
+    same_size(rt, shelf, ".", Err(Failed));
+}
+
+// parts of those two files, and parts that pass the end of one
+fn parts_are_read(rt: &impl Abort, shelf: &mut FileShelf<'_, HostRuntime>) {
     let mut buf = [0; 3];
-    same_read(&rt, &mut shelf, "three", 0, &mut buf, Ok(()));
-    same(&rt, "the bytes of three", buf, *b"xyz");
-    same_read(&rt, &mut shelf, "five", 1, &mut buf, Ok(()));
-    same(&rt, "the bytes of five", buf, *b"123");
-    same_read(&rt, &mut shelf, "five", 3, &mut buf, Err(Failed));
-    same_read(&rt, &mut shelf, "five", 6, &mut [], Err(Failed));
-    same_read(&rt, &mut shelf, "five", 5, &mut [], Ok(()));
-    Ok(())
+    same_read(rt, shelf, "three", 0, &mut buf, Ok(()));
+    same(rt, "the bytes of three", buf, *b"xyz");
+    same_read(rt, shelf, "five", 1, &mut buf, Ok(()));
+    same(rt, "the bytes of five", buf, *b"123");
+    same_read(rt, shelf, "five", 3, &mut buf, Err(Failed));
+    same_read(rt, shelf, "five", 6, &mut [], Err(Failed));
+    same_read(rt, shelf, "five", 5, &mut [], Ok(()));
 }
 
 #[test]
-fn replaced_file_is_not_seen(rt: HostRuntime) -> Result<(), Fail> {
-    fs::write(&rt, "kept", b"old bytes")?;
+fn files_are_found_by_their_names(rt: HostRuntime) {
+    write(&rt, "five", b"01234");
+    write(&rt, "three", b"xyz");
     let mut shelf = FileShelf::new(&rt, rt.alloc());
-    same_size(&rt, &mut shelf, "kept", Ok(Some(9)));
-    replace(&rt, "kept");
-    same_size(&rt, &mut shelf, "kept", Ok(Some(9)));
+    sizes_are_told(&rt, &mut shelf);
+    parts_are_read(&rt, &mut shelf);
+}
+
+// a file of nine bytes that another one replaces, and its bytes from 4 on
+fn old_bytes_are_read<R: Files + Abort>(rt: &R, shelf: &mut FileShelf<'_, HostRuntime>) {
+    same_size(rt, shelf, "kept", Ok(Some(9)));
+    replace(rt, "kept");
+    same_size(rt, shelf, "kept", Ok(Some(9)));
     let mut buf = [0; 5];
-    same_read(&rt, &mut shelf, "kept", 4, &mut buf, Ok(()));
-    same(&rt, "the bytes from 4 on", buf, *b"bytes");
-    Ok(())
+    same_read(rt, shelf, "kept", 4, &mut buf, Ok(()));
+    same(rt, "the bytes from 4 on", buf, *b"bytes");
+}
+
+#[test]
+fn replaced_file_is_not_seen(rt: HostRuntime) {
+    write(&rt, "kept", b"old bytes");
+    let mut shelf = FileShelf::new(&rt, rt.alloc());
+    old_bytes_are_read(&rt, &mut shelf);
+}
+
+// files that are empty, and one that gives bytes although its end is at 0
+fn ends_at_0_are_told(rt: &impl Abort, shelf: &mut impl Shelf) {
+    same_size(rt, shelf, "empty", Ok(Some(0)));
+    same_size(rt, shelf, "/dev/null", Ok(Some(0)));
+    same_size(rt, shelf, "/dev/zero", Err(Failed));
 }
 
 // An end at 0 is the size of a file that gives no byte.
 #[test]
-fn file_that_tells_no_size_fails(rt: HostRuntime) -> Result<(), Fail> {
-    fs::write(&rt, "empty", b"")?;
+fn file_that_tells_no_size_fails(rt: HostRuntime) {
+    write(&rt, "empty", b"");
     let mut shelf = FileShelf::new(&rt, rt.alloc());
-    same_size(&rt, &mut shelf, "empty", Ok(Some(0)));
-    same_size(&rt, &mut shelf, "/dev/null", Ok(Some(0)));
-    same_size(&rt, &mut shelf, "/dev/zero", Err(Failed));
-    Ok(())
+    ends_at_0_are_told(&rt, &mut shelf);
 }

@@ -1,12 +1,25 @@
-//! What the rows stand on: the comparison, and bytes that are put in their places.
+//! What the rows stand on: the comparison, the answer that has to be there, and bytes that are put in their
+//! places.
 
-use mpt_base::{Failed, Shelf};
+use mpt_base::{Failed, Shelf, put_bytes};
 use std::fmt::Debug;
 use std::process::Abort;
 
 /// Ends the test where the two differ, and prints both and the name of the row.
 pub(crate) fn same<T: PartialEq + Debug + Drop>(rt: &impl Abort, name: &str, got: T, want: T) {
     assert_eq!(rt; got, want, "{name}");
+}
+
+/// What a call gave, or the end of the test where it failed.
+pub(crate) fn expect<T: Drop, E: Debug + Drop>(
+    rt: &impl Abort,
+    otherwise: &str,
+    answer: Result<T, E>,
+) -> T {
+    match answer {
+        Ok(value) => value,
+        Err(error) => panic!(rt; "{otherwise}: {error:?}"),
+    }
 }
 
 /// Compares the size that a shelf tells of a file.
@@ -19,11 +32,9 @@ pub(crate) fn same_size(
     same(rt, name, shelf.size(name), want);
 }
 
-/// Writes bytes at a place. What passes the end is left out.
+/// Writes bytes at a place, and nothing where they pass the end.
 pub(crate) fn put(image: &mut [u8], at: usize, bytes: &[u8]) {
-    if let Some(rest) = image.get_mut(at..) {
-        for (cell, byte) in rest.iter_mut().zip(bytes.iter()) {
-            *cell = *byte;
-        }
+    if at <= image.len() && bytes.len() <= image.len() - at {
+        put_bytes(image, at, bytes);
     }
 }

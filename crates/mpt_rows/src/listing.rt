@@ -1,6 +1,6 @@
 //! Listings whose text was written by hand from the format.
 
-use crate::harness::same;
+use crate::harness::{expect, same};
 use crate::tables;
 use crate::tables::{default, listed};
 use mpt_listing::{Part, print, push_line};
@@ -10,19 +10,16 @@ use mpt_spec::{
 };
 use std::alloc::{AllocError, Global};
 use std::process::Abort;
-use std::test::Fail;
 
 // the listing of tables
 fn same_listing(rt: &impl Abort, alloc: Global, tables: &Tables, want: &[u8]) {
-    let Ok(text) = print(alloc, tables) else {
-        panic!(rt; "out of memory");
-    };
+    let text = expect(rt, "out of memory", print(alloc, tables));
     same(rt, "the listing", text.as_slice(), want);
 }
 
 #[test]
-fn one_processor(rt: HostRuntime) -> Result<(), Fail> {
-    let base = tables::one_processor(rt.alloc())?;
+fn one_processor(rt: HostRuntime) {
+    let base = expect(&rt, "out of memory", tables::one_processor(rt.alloc()));
     let described = listed(0xF0000, 0xF0010, base, Vec::new(rt.alloc()));
     let want = b"mptable 1
 pointer at 000F0000 table 000F0010 revision 04 features 0000000000
@@ -31,7 +28,6 @@ processor id 00 version 10 flags 03 signature 00000520 features 000001BF reserve
 end
 ";
     same_listing(&rt, rt.alloc(), &described, want);
-    Ok(())
 }
 
 #[test]
@@ -93,9 +89,13 @@ fn opaque(alloc: Global, kind: u8, rest: &[u8]) -> Result<Ext, AllocError> {
     }))
 }
 
-fn ext_entries(alloc: Global) -> Result<Vec<Ext>, AllocError> {
-    let mut out = Vec::new(alloc);
-    out.push(opaque(alloc, 0x83, &[])?)?;
+fn push_opaque(out: &mut Vec<Ext>, alloc: Global, kind: u8, rest: &[u8]) -> Result<(), AllocError> {
+    out.push(opaque(alloc, kind, rest)?)?;
+    Ok(())
+}
+
+// an entry of each type that the standard defines
+fn push_defined(out: &mut Vec<Ext>) -> Result<(), AllocError> {
     out.push(Ext::Space(Space {
         bus: 1,
         kind: 2,
@@ -113,12 +113,24 @@ fn ext_entries(alloc: Global) -> Result<Vec<Ext>, AllocError> {
         flags: 1,
         ranges: 0x80000001,
     }))?;
-    out.push(opaque(alloc, 0xFF, &[0x0F, 0xA0, 0x22])?)?;
-    Ok(out)
+    Ok(())
 }
 
-#[test]
-fn every_entry(rt: HostRuntime) -> Result<(), Fail> {
+fn push_ext_entries(out: &mut Vec<Ext>, alloc: Global) -> Result<(), AllocError> {
+    push_opaque(out, alloc, 0x83, &[])?;
+    push_defined(out)?;
+    push_opaque(out, alloc, 0xFF, &[0x0F, 0xA0, 0x22])
+}
+
+fn ext_entries(rt: &impl Abort, alloc: Global) -> Vec<Ext> {
+    let mut out = Vec::new(alloc);
+    let pushed = push_ext_entries(&mut out, alloc);
+    expect(rt, "out of memory", pushed);
+    out
+}
+
+// tables of these entries
+fn described(base: Vec<Base>, ext: Vec<Ext>) -> Tables {
     let pointer = Pointer {
         address: 0x7FE0010,
         revision: 4,
@@ -133,9 +145,21 @@ fn every_entry(rt: HostRuntime) -> Result<(), Fail> {
         local_address: 0xFEE00000,
         reserved: 0x5A,
         old: [0; 4],
-        base: Sequence::new(base_entries(rt.alloc())?),
-        ext: Sequence::new(ext_entries(rt.alloc())?),
+        base: Sequence::new(base),
+        ext: Sequence::new(ext),
     };
+    Tables {
+        at: 0xF0000,
+        pointer,
+        body: Body::Listed(table),
+    }
+}
+
+#[test]
+fn every_entry(rt: HostRuntime) {
+    let base = expect(&rt, "out of memory", base_entries(rt.alloc()));
+    let ext = ext_entries(&rt, rt.alloc());
+    let described = described(base, ext);
     let want = b"mptable 1
 pointer at 000F0000 table 07FE0010 revision 04 features 0080FF0001
 header revision 04 oem \"OEM \\x1F ~\\x80\" product \"a'b\\x22c\\x5Cd\\x0Aef g\" oemtable 00ABCDEF oemsize 03A0 local FEE00000 reserved 5A
@@ -152,30 +176,25 @@ modifier bus 00 flags 01 ranges 80000001
 opaque kind FF rest 0FA022
 end
 ";
-    let described = Tables {
-        at: 0xF0000,
-        pointer,
-        body: Body::Listed(table),
-    };
     same_listing(&rt, rt.alloc(), &described, want);
-    Ok(())
 }
 
-#[test]
-fn line_of_parts(rt: HostRuntime) -> Result<(), Fail> {
-    let mut out = Vec::new(rt.alloc());
+fn push_lines(out: &mut Vec<u8>) -> Result<(), AllocError> {
     let at = [
         Part::Text(b"fault "),
         Part::Decimal(16),
         Part::Text(b" at "),
         Part::Hex(8, 0xF0050),
     ];
-    push_line(&mut out, &at)?;
-    push_line(
-        &mut out,
-        &[Part::Decimal(0), Part::Text(b" "), Part::Decimal(u64::MAX)],
-    )?;
+    push_line(out, &at)?;
+    let bounds = [Part::Decimal(0), Part::Text(b" "), Part::Decimal(u64::MAX)];
+    push_line(out, &bounds)
+}
+
+#[test]
+fn line_of_parts(rt: HostRuntime) {
+    let mut out = Vec::new(rt.alloc());
+    expect(&rt, "out of memory", push_lines(&mut out));
     let want = b"fault 16 at 000F0050\n0 18446744073709551615\n";
     same(&rt, "the lines", out.as_slice(), want.as_slice());
-    Ok(())
 }

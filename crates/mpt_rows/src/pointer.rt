@@ -1,11 +1,10 @@
 //! A floating pointer spelled out by hand from MultiProcessor Specification 1.4, figure 4-2, and the
 //! search for it.
 
-use crate::harness::{put, same};
+use crate::harness::{expect, put, same};
 use mpt_pointer::{Area, Pointer, areas, find, read_pointer};
 use std::alloc::{AllocError, Global};
 use std::process::Abort;
-use std::test::Fail;
 
 /// A floating pointer that names a table at F0010h.
 const BYTES: [u8; 16] = [
@@ -66,20 +65,23 @@ fn looks_in_one_area_beside_the_bios(rt: HostRuntime) {
     same_areas(&rt, 0, 0, 1000, &[end]);
 }
 
+// what is found in an image of zeros while pointers are put there
+fn first_is_found(rt: &impl Abort, image: &mut [u8]) {
+    put(image, 0x40E, &[0x50]);
+    same(rt, "no pointer", find(image), None);
+    put(image, 0x508, &BYTES);
+    same(rt, "none at a multiple of 16", find(image), None);
+    put(image, 0x520, &BYTES);
+    put(image, 0x540, &BYTES);
+    same(rt, "the first of two", find(image), Some(0x520));
+    put(image, 0x52A, &[0x80]);
+    same(rt, "the first is wrong", find(image), Some(0x540));
+}
+
 // The EBDA is at 500h. A pointer whose checksum is wrong is passed over, and none is found between the
 // multiples of 16.
 #[test]
-fn finds_the_first_of_the_search(rt: HostRuntime) -> Result<(), Fail> {
-    let mut image = zeros(rt.alloc(), 1360)?;
-    let image = image.as_mut_slice();
-    put(image, 0x40E, &[0x50]);
-    same(&rt, "no pointer", find(image), None);
-    put(image, 0x508, &BYTES);
-    same(&rt, "none at a multiple of 16", find(image), None);
-    put(image, 0x520, &BYTES);
-    put(image, 0x540, &BYTES);
-    same(&rt, "the first of two", find(image), Some(0x520));
-    put(image, 0x52A, &[0x80]);
-    same(&rt, "the first is wrong", find(image), Some(0x540));
-    Ok(())
+fn finds_the_first_of_the_search(rt: HostRuntime) {
+    let mut image = expect(&rt, "out of memory", zeros(rt.alloc(), 1360));
+    first_is_found(&rt, image.as_mut_slice());
 }

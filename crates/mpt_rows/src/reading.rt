@@ -1,15 +1,14 @@
 //! A small image spelled out by hand from MultiProcessor Specification 1.4, figures 4-2 to 4-4: what it
 //! describes, and the faults of a few bytes.
 
-use crate::harness::{put, same};
+use crate::harness::{expect, put, same};
 use crate::pointer::zeros;
 use crate::tables::{ONE_PROCESSOR, lone};
 use mpt_base::{Fault, Reason};
-use mpt_spec::{Base, Table};
+use mpt_spec::{Base, Table, Tables};
 use mpt_table::{Body, Pointer, Refusal, read};
 use std::alloc::{AllocError, Global};
 use std::process::Abort;
-use std::test::Fail;
 
 /// A floating pointer that names the table at 510h.
 const POINTER: [u8; 16] = [
@@ -35,38 +34,43 @@ fn same_table(rt: &impl Abort, table: &Table) {
     same(rt, "its size", table.oem_size, 0);
     same(rt, "the local APICs", table.local_address, 0xFEE0_0000);
     same(rt, "the reserved byte", table.reserved, 0);
+    same_entries(rt, table);
+}
+
+// its one entry
+fn same_entries(rt: &impl Abort, table: &Table) {
+    let base = [Base::Processor(lone(3, 0))];
     same(
         rt,
         "the base entries",
         table.base.as_slice(),
-        [Base::Processor(lone(3, 0))].as_slice(),
+        base.as_slice(),
     );
-    same(
-        rt,
-        "no extended entry",
-        table.ext.as_slice().is_empty(),
-        true,
-    );
+    let none = table.ext.as_slice().is_empty();
+    same(rt, "no extended entry", none, true);
 }
 
-#[test]
-fn describes_a_table_of_one_processor(rt: HostRuntime) -> Result<(), Fail> {
-    let image = small_image(rt.alloc(), &ONE_PROCESSOR)?;
-    let Ok(tables) = read(rt.alloc(), image.as_slice()) else {
-        panic!(rt; "refused");
-    };
-    same(&rt, "the place of the pointer", tables.at, 0x500);
+// what an image with that table says
+fn same_tables(rt: &impl Abort, tables: &Tables) {
+    same(rt, "the place of the pointer", tables.at, 0x500);
     let pointer = Pointer {
         address: 0x510,
         revision: 4,
         features: [0; 5],
     };
-    same(&rt, "the pointer", tables.pointer, pointer);
+    same(rt, "the pointer", tables.pointer, pointer);
     let Body::Listed(table) = &tables.body else {
         panic!(rt; "a default configuration");
     };
-    same_table(&rt, table);
-    Ok(())
+    same_table(rt, table);
+}
+
+#[test]
+fn describes_a_table_of_one_processor(rt: HostRuntime) {
+    let image = small_image(rt.alloc(), &ONE_PROCESSOR);
+    let image = expect(&rt, "out of memory", image);
+    let tables = expect(&rt, "refused", read(rt.alloc(), image.as_slice()));
+    same_tables(&rt, &tables);
 }
 
 // what is wrong with an image
@@ -77,15 +81,18 @@ fn same_refusal(rt: &impl Abort, alloc: Global, image: &[u8], want: Refusal) {
 
 // the first fault of the table of one processor with other bytes at these offsets
 fn same_fault(rt: &impl Abort, alloc: Global, changes: &[(usize, u8)], at: u64, why: Reason) {
-    let Ok(mut image) = small_image(alloc, &ONE_PROCESSOR) else {
-        panic!(rt; "out of memory");
-    };
-    for (offset, byte) in changes {
-        let place = offset.saturating_add(0x510);
-        put(image.as_mut_slice(), place, &[*byte]);
-    }
+    let image = small_image(alloc, &ONE_PROCESSOR);
+    let mut image = expect(rt, "out of memory", image);
+    change(image.as_mut_slice(), changes);
     let want = Refusal::Fault(Fault { at, why });
     same_refusal(rt, alloc, image.as_slice(), want);
+}
+
+// puts bytes at offsets of the table
+fn change(image: &mut [u8], changes: &[(usize, u8)]) {
+    for (offset, byte) in changes {
+        put(image, offset.saturating_add(0x510), &[*byte]);
+    }
 }
 
 // Each row changes some bytes of the table. The reason is that of the first fault, by its offset.

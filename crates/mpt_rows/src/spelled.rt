@@ -1,13 +1,14 @@
 //! Numbers, floating pointers and entries by their bytes, spelled out by hand from MultiProcessor
 //! Specification 1.4, figures 4-2 and 4-4 to 4-11.
 
-use crate::harness::same;
+use crate::harness::{expect, same};
 use crate::tables::lone;
 use mpt_base::{NoMemory, append, checksum8, put_bytes, put_u16, put_u32, put_u64, seal8};
 use mpt_entries::{write_base, write_ext};
 use mpt_pointer::{Pointer, read_pointer, write_pointer};
 use mpt_spec::{Base, Bus, Ext, Hierarchy, IntEntry, IoApic, Modifier, Opaque, Sequence, Space};
 use std::alloc::Global;
+use std::process::Abort;
 
 #[test]
 fn puts_numbers_low_byte_first(rt: HostRuntime) {
@@ -87,18 +88,23 @@ fn joined(alloc: Global, pieces: &[&[u8]]) -> Result<Vec<u8>, NoMemory> {
     Ok(out)
 }
 
-// a question mark, and the bytes of base entries behind it
-fn written_base(alloc: Global, entries: &[Base]) -> Result<Vec<u8>, NoMemory> {
-    let mut out = Vec::new(alloc);
-    append(&mut out, b"?")?;
-    for entry in entries {
-        write_base(&mut out, entry)?;
-    }
-    Ok(out)
+// bytes that are these pieces
+fn same_pieces(rt: &impl Abort, alloc: Global, bytes: &[u8], pieces: &[&[u8]]) {
+    let want = expect(rt, "no memory for the pieces", joined(alloc, pieces));
+    same(rt, "the bytes", bytes, want.as_slice());
 }
 
-#[test]
-fn writes_base_entries_behind_one_another(rt: HostRuntime) {
+// a question mark, and the bytes of base entries behind it
+fn push_base(out: &mut Vec<u8>, entries: &[Base]) -> Result<(), NoMemory> {
+    append(out, b"?")?;
+    for entry in entries {
+        write_base(out, entry)?;
+    }
+    Ok(())
+}
+
+// a base entry of each kind
+fn base_entries() -> [Base; 5] {
     let interrupt = IntEntry {
         kind: 1,
         flags: 0x0F05,
@@ -107,7 +113,7 @@ fn writes_base_entries_behind_one_another(rt: HostRuntime) {
         dest: 0xFF,
         pin: 16,
     };
-    let entries = [
+    [
         Base::Processor(lone(3, 7)),
         Base::Bus(Bus {
             id: 7,
@@ -121,7 +127,11 @@ fn writes_base_entries_behind_one_another(rt: HostRuntime) {
         }),
         Base::IoInt(interrupt),
         Base::LocalInt(interrupt),
-    ];
+    ]
+}
+
+#[test]
+fn writes_base_entries_behind_one_another(rt: HostRuntime) {
     let pieces = [
         b"?\x00\x00\x10\x03\x20\x05\x00\x00\xBF\x01\x00\x00\x07\x07\x07\x07\x07\x07\x07\x07".as_slice(),
         b"\x01\x07ISA   ".as_slice(),
@@ -129,44 +139,54 @@ fn writes_base_entries_behind_one_another(rt: HostRuntime) {
         b"\x03\x01\x05\x0F\x02\x20\xFF\x10".as_slice(),
         b"\x04\x01\x05\x0F\x02\x20\xFF\x10".as_slice(),
     ];
-    let Ok(out) = written_base(rt.alloc(), &entries) else {
-        panic!(rt; "out of memory");
-    };
-    let Ok(expected) = joined(rt.alloc(), &pieces) else {
-        panic!(rt; "out of memory");
-    };
-    same(&rt, "the bytes", out.as_slice(), expected.as_slice());
+    let mut out = Vec::new(rt.alloc());
+    expect(&rt, "no entries", push_base(&mut out, &base_entries()));
+    same_pieces(&rt, rt.alloc(), out.as_slice(), &pieces);
 }
 
-// the bytes of an extended entry of each kind
-fn written_ext(alloc: Global) -> Result<Vec<u8>, NoMemory> {
-    let mut out = Vec::new(alloc);
+fn push_space(out: &mut Vec<u8>) -> Result<(), NoMemory> {
     let space = Ext::Space(Space {
         bus: 0,
         kind: 1,
         base: 0xFEC0_0000,
         length: 0x0001_0000_1000,
     });
-    write_ext(&mut out, &space)?;
+    write_ext(out, &space)
+}
+
+fn push_hierarchy(out: &mut Vec<u8>) -> Result<(), NoMemory> {
     let hierarchy = Ext::Hierarchy(Hierarchy {
         bus: 7,
         info: 1,
         parent: 3,
         reserved: [9; 3],
     });
-    write_ext(&mut out, &hierarchy)?;
+    write_ext(out, &hierarchy)
+}
+
+fn push_modifier(out: &mut Vec<u8>) -> Result<(), NoMemory> {
     let modifier = Ext::Modifier(Modifier {
         bus: 4,
         flags: 1,
         ranges: 0x0102_0304,
     });
-    write_ext(&mut out, &modifier)?;
+    write_ext(out, &modifier)
+}
+
+fn push_opaque(out: &mut Vec<u8>, alloc: Global) -> Result<(), NoMemory> {
     let opaque = Ext::Opaque(Opaque {
         kind: 0xC8,
         rest: Sequence::new(Vec::new(alloc)),
     });
-    write_ext(&mut out, &opaque)?;
-    Ok(out)
+    write_ext(out, &opaque)
+}
+
+// the bytes of an extended entry of each kind
+fn push_ext(out: &mut Vec<u8>, alloc: Global) -> Result<(), NoMemory> {
+    push_space(out)?;
+    push_hierarchy(out)?;
+    push_modifier(out)?;
+    push_opaque(out, alloc)
 }
 
 #[test]
@@ -177,11 +197,7 @@ fn writes_extended_entries_behind_one_another(rt: HostRuntime) {
         b"\x82\x08\x04\x01\x04\x03\x02\x01".as_slice(),
         b"\xC8\x02".as_slice(),
     ];
-    let Ok(out) = written_ext(rt.alloc()) else {
-        panic!(rt; "out of memory");
-    };
-    let Ok(expected) = joined(rt.alloc(), &pieces) else {
-        panic!(rt; "out of memory");
-    };
-    same(&rt, "the bytes", out.as_slice(), expected.as_slice());
+    let mut out = Vec::new(rt.alloc());
+    expect(&rt, "no entries", push_ext(&mut out, rt.alloc()));
+    same_pieces(&rt, rt.alloc(), out.as_slice(), &pieces);
 }

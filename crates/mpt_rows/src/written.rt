@@ -1,31 +1,28 @@
 //! Blocks and images that are written, and read again.
 
-use crate::harness::{put, same};
+use crate::harness::{expect, put, same};
 use crate::tables::{ONE_PROCESSOR, default, listed, one_processor, usual};
-use mpt_base::{NoMemory, sum8};
+use mpt_base::sum8;
 use mpt_spec::{Ext, Opaque, Sequence, Tables};
 use mpt_table::read;
 use mpt_write::{fits, well_formed, write_block, write_image};
 use std::alloc::{AllocError, Global};
 use std::process::Abort;
-use std::test::Fail;
 
 // the block of well formed tables, and none of others
-fn block_of(alloc: Global, tables: &Tables) -> Option<Vec<u8>> {
-    if well_formed(tables) {
-        write_block(alloc, tables).ok()
-    } else {
-        None
+fn block_of(rt: &impl Abort, alloc: Global, tables: &Tables) -> Vec<u8> {
+    if !well_formed(tables) {
+        panic!(rt; "not well formed");
     }
+    expect(rt, "no block", write_block(alloc, tables))
 }
 
 // the image of tables that fit, and none of others
-fn image_of(alloc: Global, tables: &Tables) -> Option<Vec<u8>> {
-    if fits(tables) {
-        write_image(alloc, tables).ok()
-    } else {
-        None
+fn image_of(rt: &impl Abort, alloc: Global, tables: &Tables) -> Vec<u8> {
+    if !fits(tables) {
+        panic!(rt; "no place in an image");
     }
+    expect(rt, "no image", write_image(alloc, tables))
 }
 
 // how many of the bytes are not 0
@@ -57,72 +54,61 @@ fn same_part(rt: &impl Abort, name: &str, part: Option<&[u8]>, want: &[u8]) {
 
 // the block that is written of tables
 fn same_block(rt: &impl Abort, alloc: Global, tables: &Tables, want: &[u8]) {
-    let Some(block) = block_of(alloc, tables) else {
-        panic!(rt; "no block");
-    };
+    let block = block_of(rt, alloc, tables);
     same(rt, "the block", block.as_slice(), want);
 }
 
 // a table of one processor, with one extended entry of another type that has nothing behind its length
 // byte
-fn opaque_tables(alloc: Global) -> Result<Tables, AllocError> {
+fn opaque_tables(rt: &impl Abort, alloc: Global) -> Tables {
+    let base = expect(rt, "out of memory", one_processor(alloc));
+    let ext = expect(rt, "out of memory", opaque_entry(alloc));
+    listed(0xF_0000, 0x000F_0010, base, ext)
+}
+
+fn opaque_entry(alloc: Global) -> Result<Vec<Ext>, AllocError> {
     let mut ext = Vec::new(alloc);
     ext.push(Ext::Opaque(Opaque {
         kind: 0xC8,
         rest: Sequence::new(Vec::new(alloc)),
     }))?;
-    let base = one_processor(alloc)?;
-    Ok(listed(0xF_0000, 0x000F_0010, base, ext))
+    Ok(ext)
 }
 
 // their bytes: the extended length is 2, the extended checksum 36h and the checksum 61h
-fn opaque_block(alloc: Global) -> Result<Vec<u8>, AllocError> {
-    let mut block = Vec::from_slice(alloc, &ONE_PROCESSOR)?;
-    block.extend_from_slice(b"\xC8\x02")?;
-    let bytes = block.as_mut_slice();
-    put(bytes, 7, &[0x61]);
-    put(bytes, 40, &[2]);
-    put(bytes, 42, &[0x36]);
-    Ok(block)
+fn opaque_block() -> [u8; 66] {
+    let mut block = [0; 66];
+    put(&mut block, 0, &ONE_PROCESSOR);
+    put(&mut block, 7, &[0x61]);
+    put(&mut block, 40, &[2]);
+    put(&mut block, 42, &[0x36]);
+    put(&mut block, 64, b"\xC8\x02");
+    block
 }
 
 // a usual board, with its floating pointer at F0000h and the table behind it
-fn usual_tables(alloc: Global) -> Result<Tables, NoMemory> {
-    let base = usual(alloc)?;
-    Ok(listed(0xF_0000, 0x000F_0010, base, Vec::new(alloc)))
+fn usual_tables(rt: &impl Abort, alloc: Global) -> Tables {
+    let base = expect(rt, "out of memory", usual(alloc));
+    listed(0xF_0000, 0x000F_0010, base, Vec::new(alloc))
 }
 
 #[test]
-fn writes_a_table_of_one_processor(rt: HostRuntime) -> Result<(), Fail> {
-    let base = one_processor(rt.alloc())?;
+fn writes_a_table_of_one_processor(rt: HostRuntime) {
+    let base = expect(&rt, "out of memory", one_processor(rt.alloc()));
     let tables = listed(0xF_0000, 0x000F_0010, base, Vec::new(rt.alloc()));
     same_block(&rt, rt.alloc(), &tables, &ONE_PROCESSOR);
-    Ok(())
-}
-
-// the block that is written of those tables
-fn same_opaque_block(rt: &impl Abort, alloc: Global, want: &[u8]) {
-    let Ok(tables) = opaque_tables(alloc) else {
-        panic!(rt; "out of memory");
-    };
-    same_block(rt, alloc, &tables, want);
 }
 
 #[test]
-fn writes_an_opaque_entry_behind_the_base_table(rt: HostRuntime) -> Result<(), Fail> {
-    let want = opaque_block(rt.alloc())?;
-    same_opaque_block(&rt, rt.alloc(), want.as_slice());
-    Ok(())
+fn writes_an_opaque_entry_behind_the_base_table(rt: HostRuntime) {
+    let tables = opaque_tables(&rt, rt.alloc());
+    same_block(&rt, rt.alloc(), &tables, &opaque_block());
 }
 
 #[test]
 fn writes_a_usual_table_in_260_bytes(rt: HostRuntime) {
-    let Ok(tables) = usual_tables(rt.alloc()) else {
-        panic!(rt; "out of memory");
-    };
-    let Some(block) = block_of(rt.alloc(), &tables) else {
-        panic!(rt; "no block");
-    };
+    let tables = usual_tables(&rt, rt.alloc());
+    let block = block_of(&rt, rt.alloc(), &tables);
     same_usual_block(&rt, block.as_slice());
 }
 
@@ -145,22 +131,24 @@ fn writes_nothing_for_a_default_configuration(rt: HostRuntime) {
 // The image of a usual board: the segment F000h, the floating pointer at F0000h and the table behind it.
 #[test]
 fn writes_an_image_that_is_read_back(rt: HostRuntime) {
-    let Ok(tables) = usual_tables(rt.alloc()) else {
-        panic!(rt; "out of memory");
-    };
-    let Some(image) = image_of(rt.alloc(), &tables) else {
-        panic!(rt; "no image");
-    };
-    let Some(block) = block_of(rt.alloc(), &tables) else {
-        panic!(rt; "no block");
-    };
+    let tables = usual_tables(&rt, rt.alloc());
+    let image = image_of(&rt, rt.alloc(), &tables);
+    let block = block_of(&rt, rt.alloc(), &tables);
     same_usual_image(&rt, image.as_slice(), block.as_slice());
-    let Ok(again) = read(rt.alloc(), image.as_slice()) else {
-        panic!(rt; "no tables in the image");
-    };
-    same(&rt, "the place", again.at, tables.at);
-    same(&rt, "the pointer", again.pointer, tables.pointer);
-    same_block(&rt, rt.alloc(), &again, block.as_slice());
+    is_read_back(&rt, rt.alloc(), image.as_slice(), &tables, block.as_slice());
+}
+
+// the tables that an image has, which have this block
+fn is_read_back(rt: &impl Abort, alloc: Global, image: &[u8], tables: &Tables, block: &[u8]) {
+    let again = expect(rt, "no tables in the image", read(alloc, image));
+    same_tables(rt, &again, tables);
+    same_block(rt, alloc, &again, block);
+}
+
+// the place of tables and their floating pointer
+fn same_tables(rt: &impl Abort, got: &Tables, want: &Tables) {
+    same(rt, "the place", got.at, want.at);
+    same(rt, "the pointer", got.pointer, want.pointer);
 }
 
 // what an image of a usual board with this block has, and that it has nothing else
@@ -181,9 +169,7 @@ fn same_usual_image(rt: &impl Abort, image: &[u8], block: &[u8]) {
 #[test]
 fn writes_an_image_of_a_default_configuration(rt: HostRuntime) {
     let tables = default(5, 0x9_FC00, 0xFFFF_FFFF);
-    let Some(image) = image_of(rt.alloc(), &tables) else {
-        panic!(rt; "no image");
-    };
+    let image = image_of(&rt, rt.alloc(), &tables);
     same_default_image(&rt, image.as_slice());
 }
 
