@@ -1,6 +1,6 @@
 //! The boards of the rows.
 
-ghost use Rattle.std.specs.Prelude.{◌<◌, ◌≤◌, ◌^◌, IfOk, IfSome, length};
+ghost use Rattle.std.specs.Prelude.{◌<◌, ◌≤◌, ◌+◌, ◌^◌, IfOk, IfSome, length, map, sum_by};
 ghost use Rattle.mpb_spec.specs.Plan.{plan_size};
 
 use mpb_board::{Config, CpuConfig, DevWord, Op};
@@ -19,6 +19,66 @@ fn processor(alloc: Global, id: u8, version: u8, program: &[Op]) -> Result<CpuCo
     })
 }
 
+/// Processor 0, of version 10h, with this program.
+fn one_processor(alloc: Global, program: &[Op]) -> Result<Vec<CpuConfig>, AllocError>
+    requires { length program.now ≤ 100 }
+    ensures { IfOk result (λ cpus. sum_by (λ p. length p.program) cpus.items ≤ 100) }
+{
+    let cpu = processor(alloc, 0, 0x10, program)?;
+    Ok(vec![in alloc; cpu]?)
+}
+
+/// A processor of version 10h with this program, and one of another version, which has none.
+fn pair(
+    alloc: Global,
+    boot: u8,
+    program: &[Op],
+    other: u8,
+    version: u8,
+) -> Result<Vec<CpuConfig>, AllocError>
+    requires { length program.now ≤ 100 }
+    ensures { IfOk result (λ cpus. sum_by (λ p. length p.program) cpus.items ≤ 200) }
+{
+    let first = processor(alloc, boot, 0x10, program)?;
+    let second = processor(alloc, other, version, &[])?;
+    Ok(vec![in alloc; first, second]?)
+}
+
+/// One device of these words.
+fn one_device(alloc: Global, words: &[DevWord]) -> Result<Vec<Vec<DevWord>>, AllocError>
+    requires { length words.now ≤ 100 }
+    ensures { IfOk result (λ devices. sum_by (λ words. length words + 2) (map (λ words. words.items) devices.items) ≤ 102) }
+{
+    let device = words.to_vec(alloc)?;
+    Ok(vec![in alloc; device]?)
+}
+
+/// Three devices, each of which pulses pin 1 of the first I/O APIC.
+fn three_devices(alloc: Global) -> Result<Vec<Vec<DevWord>>, AllocError>
+    ensures { IfOk result (λ devices. sum_by (λ words. length words + 2) (map (λ words. words.items) devices.items) ≤ 9) }
+{
+    let words = [DevWord::Pulse(0, 1)];
+    let first = words.to_vec(alloc)?;
+    let second = words.to_vec(alloc)?;
+    let third = words.to_vec(alloc)?;
+    Ok(vec![in alloc; first, second, third]?)
+}
+
+/// Processors of which the first, 0, boots by so many ops, and devices on one I/O APIC of id 1.
+fn with_one_io(
+    alloc: Global,
+    boot_len: u32,
+    cpus: Vec<CpuConfig>,
+    devices: Vec<Vec<DevWord>>,
+) -> Result<Option<Config>, AllocError>
+    requires cpus { sum_by (λ p. length p.program) cpus.items ≤ 200 }
+    requires devices { sum_by (λ words. length words + 2) (map (λ words. words.items) devices.items) ≤ 102 }
+    ensures { IfOk result (λ made. IfSome made (λ c. plan_size c < 2 ^ 32)) }
+{
+    let ios = [1].to_vec(alloc)?;
+    Ok(config_of(0x9F, 0, boot_len, cpus, ios, false, devices))
+}
+
 /// Two processors of version 10h, ids 0 (boot) and 1, and nothing else. The boot program starts
 /// processor 1 at page 9Fh.
 pub fn two_processors(alloc: Global) -> Result<Option<Config>, AllocError>
@@ -33,9 +93,7 @@ pub fn two_processors(alloc: Global) -> Result<Option<Config>, AllocError>
         Op::Pause(200),
         Op::Check(1),
     ];
-    let mut cpus = Vec::new(alloc);
-    cpus.push(processor(alloc, 0, 0x10, program.as_slice())?)?;
-    cpus.push(processor(alloc, 1, 0x10, &[])?)?;
+    let cpus = pair(alloc, 0, &program, 1, 0x10)?;
     Ok(config_of(0x9F, 0, 7, cpus, Vec::new(alloc), false, Vec::new(alloc)))
 }
 
@@ -52,26 +110,9 @@ pub fn three_pulses(alloc: Global) -> Result<Option<Config>, AllocError>
         Op::IoWin(0, 0x21),
         Op::Take,
         Op::Eoi,
-    ]
-    .to_vec(alloc)?;
-    let mut cpus = Vec::new(alloc);
-    cpus.push(CpuConfig {
-        id: 0,
-        version: 0x10,
-        program,
-    })?;
-    let mut devices = Vec::new(alloc);
-    devices.push([DevWord::Pulse(0, 1)].to_vec(alloc)?)?;
-    devices.push([DevWord::Pulse(0, 1)].to_vec(alloc)?)?;
-    devices.push([DevWord::Pulse(0, 1)].to_vec(alloc)?)?;
-    Ok(Some(Config {
-        boot: 0,
-        boot_len: 4,
-        cpus,
-        ios: [1].to_vec(alloc)?,
-        imcr: false,
-        devices,
-    }))
+    ];
+    let cpus = one_processor(alloc, &program)?;
+    with_one_io(alloc, 4, cpus, three_devices(alloc)?)
 }
 
 /// One processor of version 10h and one I/O APIC of id 1, whose pin 16 the boot program unmasks with
@@ -87,24 +128,10 @@ pub fn one_level(alloc: Global) -> Result<Option<Config>, AllocError>
         Op::IoWin(0, 0xA030),
         Op::Take,
         Op::Eoi,
-    ]
-    .to_vec(alloc)?;
-    let mut cpus = Vec::new(alloc);
-    cpus.push(CpuConfig {
-        id: 0,
-        version: 0x10,
-        program,
-    })?;
-    let mut devices = Vec::new(alloc);
-    devices.push([DevWord::High(0, 16)].to_vec(alloc)?)?;
-    Ok(Some(Config {
-        boot: 0,
-        boot_len: 4,
-        cpus,
-        ios: [1].to_vec(alloc)?,
-        imcr: false,
-        devices,
-    }))
+    ];
+    let cpus = one_processor(alloc, &program)?;
+    let device = one_device(alloc, &[DevWord::High(0, 16)])?;
+    with_one_io(alloc, 4, cpus, device)
 }
 
 /// Processors 0 (boot, version 10h) and 1 (version 01h). The boot program starts processor 1 by the
@@ -125,10 +152,19 @@ pub fn old_processor(alloc: Global) -> Result<Option<Config>, AllocError>
         Op::Pause(200),
         Op::Check(2),
     ];
-    let mut cpus = Vec::new(alloc);
-    cpus.push(processor(alloc, 0, 0x10, program.as_slice())?)?;
-    cpus.push(processor(alloc, 1, 1, &[])?)?;
+    let cpus = pair(alloc, 0, &program, 1, 1)?;
     Ok(config_of(0x9F, 0, 11, cpus, Vec::new(alloc), true, Vec::new(alloc)))
+}
+
+/// Processors 0, with this program, and 1, of version 10h, and 2, of version 0Fh.
+fn new_and_old(alloc: Global, program: &[Op]) -> Result<Vec<CpuConfig>, AllocError>
+    requires { length program.now ≤ 100 }
+    ensures { IfOk result (λ cpus. sum_by (λ p. length p.program) cpus.items ≤ 300) }
+{
+    let first = processor(alloc, 0, 0x10, program)?;
+    let second = processor(alloc, 1, 0x10, &[])?;
+    let third = processor(alloc, 2, 0x0F, &[])?;
+    Ok(vec![in alloc; first, second, third]?)
 }
 
 /// Processors 0 (boot) and 1, of version 10h, and 2, of version 0Fh. The boot program sends INIT and STARTUP
@@ -154,10 +190,7 @@ pub fn starts(alloc: Global) -> Result<Option<Config>, AllocError>
         Op::Check(2),
         Op::Check(3),
     ];
-    let mut cpus = Vec::new(alloc);
-    cpus.push(processor(alloc, 0, 0x10, program.as_slice())?)?;
-    cpus.push(processor(alloc, 1, 0x10, &[])?)?;
-    cpus.push(processor(alloc, 2, 0x0F, &[])?)?;
+    let cpus = new_and_old(alloc, &program)?;
     Ok(config_of(0x9F, 0, 16, cpus, Vec::new(alloc), false, Vec::new(alloc)))
 }
 
@@ -185,18 +218,21 @@ pub fn one_asleep(alloc: Global) -> Result<Option<Config>, AllocError>
         Op::IoWin(0, 0x0700),
         Op::Check(1),
     ];
-    let mut cpus = Vec::new(alloc);
-    cpus.push(processor(alloc, 0, 0x10, program.as_slice())?)?;
-    cpus.push(processor(alloc, 1, 0x10, &[])?)?;
+    let cpus = pair(alloc, 0, &program, 1, 0x10)?;
+    with_one_io(alloc, 17, cpus, four_pulses(alloc)?)
+}
+
+/// A device that pulses pins 0 to 3.
+fn four_pulses(alloc: Global) -> Result<Vec<Vec<DevWord>>, AllocError>
+    ensures { IfOk result (λ devices. sum_by (λ words. length words + 2) (map (λ words. words.items) devices.items) ≤ 102) }
+{
     let words = [
         DevWord::Pulse(0, 0),
         DevWord::Pulse(0, 1),
         DevWord::Pulse(0, 2),
         DevWord::Pulse(0, 3),
     ];
-    let mut devices = Vec::new(alloc);
-    devices.push(words.to_vec(alloc)?)?;
-    Ok(config_of(0x9F, 0, 17, cpus, [1].to_vec(alloc)?, false, devices))
+    one_device(alloc, &words)
 }
 
 /// One processor, which unmasks pin 1 of one I/O APIC as an edge pin, and a device that pulses it twice and pin 2
@@ -204,17 +240,13 @@ pub fn one_asleep(alloc: Global) -> Result<Option<Config>, AllocError>
 pub fn early_pulses(alloc: Global) -> Result<Option<Config>, AllocError>
     ensures { IfOk result (λ made. IfSome made (λ c. plan_size c < 2 ^ 32)) }
 {
-    let program = [Op::IoSel(0, 0x12), Op::IoWin(0, 0x21)];
-    let mut cpus = Vec::new(alloc);
-    cpus.push(processor(alloc, 0, 0x10, program.as_slice())?)?;
+    let cpus = one_processor(alloc, &[Op::IoSel(0, 0x12), Op::IoWin(0, 0x21)])?;
     let words = [
         DevWord::Pulse(0, 1),
         DevWord::Pulse(0, 1),
         DevWord::Pulse(0, 2),
     ];
-    let mut devices = Vec::new(alloc);
-    devices.push(words.to_vec(alloc)?)?;
-    Ok(config_of(0x9F, 0, 2, cpus, [1].to_vec(alloc)?, false, devices))
+    with_one_io(alloc, 2, cpus, one_device(alloc, &words)?)
 }
 
 /// Processors 2 (boot) and 5, an interrupt mode register, and two I/O APICs. The boot program unmasks pin
@@ -232,27 +264,9 @@ pub fn second_io_apic(alloc: Global) -> Result<Option<Config>, AllocError>
         Op::Ipi(2, 0x52),
         Op::Tpr(0x2C),
         Op::Take,
-    ]
-    .to_vec(alloc)?;
-    let mut cpus = Vec::new(alloc);
-    cpus.push(CpuConfig {
-        id: 2,
-        version: 0x10,
-        program,
-    })?;
-    cpus.push(CpuConfig {
-        id: 5,
-        version: 0x10,
-        program: Vec::new(alloc),
-    })?;
-    let mut devices = Vec::new(alloc);
-    devices.push([DevWord::High(1, 16)].to_vec(alloc)?)?;
-    Ok(Some(Config {
-        boot: 2,
-        boot_len: 4,
-        cpus,
-        ios: [6, 7].to_vec(alloc)?,
-        imcr: true,
-        devices,
-    }))
+    ];
+    let cpus = pair(alloc, 2, &program, 5, 0x10)?;
+    let device = one_device(alloc, &[DevWord::High(1, 16)])?;
+    let ios = [6, 7].to_vec(alloc)?;
+    Ok(config_of(0x9F, 2, 4, cpus, ios, true, device))
 }

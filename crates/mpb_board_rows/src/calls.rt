@@ -43,16 +43,26 @@ const STARTS: &[(Op, u8, What)] = &[
     (Op::Check(3), 3, What::Absent),
 ];
 
+// Asserts that the boot processor's ops have these outcomes.
+fn starts_are_right(rt: &impl Abort, board: &mut Board) {
+    for (number, (op, target, what)) in STARTS.iter().enumerate() {
+        let right = is_made(board, at(BOOT, *op, *target, *what));
+        holds(rt, number, right);
+    }
+}
+
+// Asserts that no agent may step, and that the two processors are started.
+fn both_are_started(rt: &impl Abort, board: &Board) {
+    is_quiet(rt, board, true);
+    has_life(rt, board, 1, Some(Life::Started(0x9F)));
+    has_life(rt, board, 2, Some(Life::Started(0x9F)));
+}
+
 #[test]
 fn processors_start_by_their_rules(rt: HostRuntime) {
     let mut board = opened(&rt, rt.alloc(), starts(rt.alloc()));
-    for (number, (op, target, what)) in STARTS.iter().enumerate() {
-        let right = is_made(&mut board, at(BOOT, *op, *target, *what));
-        holds(&rt, number, right);
-    }
-    is_quiet(&rt, &board, true);
-    has_life(&rt, &board, 1, Some(Life::Started(0x9F)));
-    has_life(&rt, &board, 2, Some(Life::Started(0x9F)));
+    starts_are_right(&rt, &mut board);
+    both_are_started(&rt, &board);
 }
 
 // The board's agents up to its sends: the boot program, a device that pulses pins 0 to 3, each collected alone.
@@ -93,23 +103,38 @@ fn is_sent(board: &mut Board, pin: u8, what: What) -> bool {
     )
 }
 
+// Asserts that the boot program runs, and finds processor 1 asleep.
+fn boots(rt: &impl Abort, board: &mut Board) {
+    for number in 0..16usize {
+        let right = steps(board, BOOT, Offer::Next);
+        holds(rt, number, right);
+    }
+    let asleep = is_made(board, at(BOOT, Op::Check(1), 1, What::Asleep));
+    holds(rt, 16, asleep);
+}
+
+// Asserts that the device's pulses are collected.
+fn collects(rt: &impl Abort, board: &mut Board) {
+    for (agent, offer) in BEFORE {
+        let right = steps(board, *agent, *offer);
+        holds(rt, 17, right);
+    }
+}
+
+// Asserts the outcomes of the sends.
+fn sends(rt: &impl Abort, board: &mut Board) {
+    for (pin, what) in SENDS {
+        let right = is_sent(board, *pin, *what);
+        holds(rt, 18, right);
+    }
+}
+
 #[test]
 fn no_message_reaches_one_that_sleeps(rt: HostRuntime) {
     let mut board = opened(&rt, rt.alloc(), one_asleep(rt.alloc()));
-    for number in 0..16usize {
-        let right = steps(&mut board, BOOT, Offer::Next);
-        holds(&rt, number, right);
-    }
-    let asleep = is_made(&mut board, at(BOOT, Op::Check(1), 1, What::Asleep));
-    holds(&rt, 16, asleep);
-    for (agent, offer) in BEFORE {
-        let right = steps(&mut board, *agent, *offer);
-        holds(&rt, 17, right);
-    }
-    for (pin, what) in SENDS {
-        let right = is_sent(&mut board, *pin, *what);
-        holds(&rt, 18, right);
-    }
+    boots(&rt, &mut board);
+    collects(&rt, &mut board);
+    sends(&rt, &mut board);
     has_life(&rt, &board, 1, Some(Life::Asleep));
 }
 
@@ -270,12 +295,17 @@ const OFFERS: &[Call] = &[
     },
 ];
 
+// Asserts the answers to these calls.
+fn are_answered(rt: &impl Abort, board: &mut Board, calls: &[Call]) {
+    for (number, call) in calls.iter().enumerate() {
+        let right = is_answered(board, call);
+        holds(rt, number, right);
+    }
+}
+
 #[test]
 fn offers_are_answered_by_their_time(rt: HostRuntime) {
     let mut board = opened(&rt, rt.alloc(), early_pulses(rt.alloc()));
-    for (number, call) in OFFERS.iter().enumerate() {
-        let right = is_answered(&mut board, call);
-        holds(&rt, number, right);
-    }
+    are_answered(&rt, &mut board, OFFERS);
     is_quiet(&rt, &board, true);
 }

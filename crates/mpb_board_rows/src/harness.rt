@@ -3,7 +3,7 @@
 ghost use Rattle.std.specs.Prelude.{◌<◌, ◌^◌, IfOk, IfSome};
 ghost use Rattle.mpb_spec.specs.Plan.{plan_size};
 
-use crate::rows::{Row, is_made};
+use crate::rows::{Line, Row, is_made, row_of};
 use mpb_board::{Agent, Board, Config, Imcr, Life, Offer, room};
 use mpb_ioapic::IoApic;
 use mpb_lapic::Lapic;
@@ -62,8 +62,22 @@ pub(crate) fn makes(rt: &impl Abort, board: &mut Board, row: Row) {
     );
 }
 
+/// Asserts that the board makes these entries, one after the other.
+pub(crate) fn makes_all(rt: &impl Abort, board: &mut Board, lines: &[Line]) {
+    for line in lines {
+        makes(rt, board, row_of(*line));
+    }
+}
+
+/// Asserts that the board makes these entries of an agent, which may step before each, while the board isn't quiet.
+pub(crate) fn all_go_on(rt: &impl Abort, board: &mut Board, agent: Agent, lines: &[Line]) {
+    for line in lines {
+        goes_on(rt, board, agent, row_of(*line));
+    }
+}
+
 /// Asserts that the board makes this entry of an agent, which may step before, while the board isn't quiet.
-pub(crate) fn goes_on(rt: &impl Abort, board: &mut Board, agent: Agent, row: Row) {
+fn goes_on(rt: &impl Abort, board: &mut Board, agent: Agent, row: Row) {
     is_quiet(rt, board, false);
     may_step(rt, board, agent, true);
     makes(rt, board, row);
@@ -73,6 +87,13 @@ pub(crate) fn goes_on(rt: &impl Abort, board: &mut Board, agent: Agent, row: Row
 pub(crate) fn refuses_collections(rt: &impl Abort, board: &Board, agent: Agent, sets: &[u32]) {
     for pins in sets {
         refuses(rt, board, agent, Offer::Collect(*pins));
+    }
+}
+
+/// Asserts that no agent may step with the offer beside it.
+pub(crate) fn refuses_all(rt: &impl Abort, board: &Board, offers: &[(Agent, Offer)]) {
+    for (agent, offer) in offers {
+        refuses(rt, board, *agent, *offer);
     }
 }
 

@@ -4,16 +4,12 @@ use crate::boards::{second_io_apic, three_pulses, two_processors};
 use crate::harness::{is_quiet, opened};
 use crate::stepped::{account_of, has_report, silent_account, steps};
 use mpb_board::{Agent, Offer};
-use mpb_spec::Hit;
+use mpb_spec::{Account, Hit};
+use std::alloc::{AllocError, Global};
 
-#[test]
-fn two_processors_start(rt: HostRuntime) {
-    let alloc = rt.alloc();
-    let mut board = opened(&rt, alloc, two_processors(alloc));
-    let turns = [(Agent::Cpu(0), Offer::Next); 7];
-    steps(&rt, &mut board, &turns);
-    is_quiet(&rt, &board, true);
-    let want = b"mpboot 1
+const BOOT: (Agent, Offer) = (Agent::Cpu(0), Offer::Next);
+
+const TWO_PROCESSORS: &[u8] = b"mpboot 1
 entries 7
 0 cpu 00 init 01 : 01=waiting
 1 cpu 00 pause 10000 : done
@@ -27,32 +23,38 @@ state cpu 00 first tpr 00 irr - isr - tmr -
 state cpu 01 started.9F tpr 00 irr - isr - tmr -
 end
 ";
-    has_report(&rt, alloc, &board, account_of(alloc, &[]), want);
-}
 
 #[test]
-fn three_devices_pulse_one_pin(rt: HostRuntime) {
+fn two_processors_start(rt: HostRuntime) {
     let alloc = rt.alloc();
-    let mut board = opened(&rt, alloc, three_pulses(alloc));
-    let boot = (Agent::Cpu(0), Offer::Next);
-    let devices = [
+    let mut board = opened(&rt, alloc, two_processors(alloc));
+    steps(&rt, &mut board, &[BOOT; 7]);
+    is_quiet(&rt, &board, true);
+    has_report(&rt, alloc, &board, account_of(alloc, &[]), TWO_PROCESSORS);
+}
+
+// the turns of three devices that pulse one pin
+fn pulse_turns() -> &'static [(Agent, Offer)] {
+    &[
+        BOOT,
+        BOOT,
+        BOOT,
+        BOOT,
         (Agent::Dev(0), Offer::Next),
         (Agent::Dev(1), Offer::Next),
         (Agent::Dev(2), Offer::Next),
-    ];
-    steps(&rt, &mut board, &[boot; 4]);
-    steps(&rt, &mut board, &devices);
-    steps(&rt, &mut board, &[(Agent::Io(0), Offer::Collect(2))]);
-    steps(&rt, &mut board, &devices);
-    let rest = [
+        (Agent::Io(0), Offer::Collect(2)),
+        (Agent::Dev(0), Offer::Next),
+        (Agent::Dev(1), Offer::Next),
+        (Agent::Dev(2), Offer::Next),
         (Agent::Io(0), Offer::Next),
-        boot,
+        BOOT,
         (Agent::Io(0), Offer::Sweep),
-        boot,
-    ];
-    steps(&rt, &mut board, &rest);
-    is_quiet(&rt, &board, true);
-    let want = b"mpboot 1
+        BOOT,
+    ]
+}
+
+const THREE_DEVICES: &[u8] = b"mpboot 1
 entries 15
 0 cpu 00 iosel 0 13 : done
 1 cpu 00 iowin 0 00000000 : plain
@@ -77,21 +79,39 @@ state cpu 00 first tpr 00 irr - isr - tmr -
 state io 0 line 000000 due 000000 remote 000000
 end
 ";
-    let logs = [(1, Hit::New), (1, Hit::Merged), (1, Hit::Merged)];
-    has_report(&rt, alloc, &board, account_of(alloc, &logs), want);
+
+// the account of their pulses
+fn pulse_account(alloc: Global) -> Result<Account, AllocError> {
+    account_of(alloc, &[(1, Hit::New), (1, Hit::Merged), (1, Hit::Merged)])
 }
 
 #[test]
-fn registers_that_hold_something(rt: HostRuntime) {
+fn three_devices_pulse_one_pin(rt: HostRuntime) {
     let alloc = rt.alloc();
-    let mut board = opened(&rt, alloc, second_io_apic(alloc));
-    let boot = (Agent::Cpu(2), Offer::Next);
-    let device = (Agent::Dev(0), Offer::Next);
-    steps(&rt, &mut board, &[boot; 4]);
-    steps(&rt, &mut board, &[device; 2]);
-    steps(&rt, &mut board, &[(Agent::Io(1), Offer::Next)]);
-    steps(&rt, &mut board, &[boot; 4]);
-    let want = b"mpboot 1
+    let mut board = opened(&rt, alloc, three_pulses(alloc));
+    steps(&rt, &mut board, pulse_turns());
+    is_quiet(&rt, &board, true);
+    has_report(&rt, alloc, &board, pulse_account(alloc), THREE_DEVICES);
+}
+
+// the turns of a device that raises a line, and of the boot processor, 2, around them
+fn level_turns() -> &'static [(Agent, Offer)] {
+    &[
+        (Agent::Cpu(2), Offer::Next),
+        (Agent::Cpu(2), Offer::Next),
+        (Agent::Cpu(2), Offer::Next),
+        (Agent::Cpu(2), Offer::Next),
+        (Agent::Dev(0), Offer::Next),
+        (Agent::Dev(0), Offer::Next),
+        (Agent::Io(1), Offer::Next),
+        (Agent::Cpu(2), Offer::Next),
+        (Agent::Cpu(2), Offer::Next),
+        (Agent::Cpu(2), Offer::Next),
+        (Agent::Cpu(2), Offer::Next),
+    ]
+}
+
+const REGISTERS: &[u8] = b"mpboot 1
 entries 11
 0 cpu 02 iosel 1 31 : done
 1 cpu 02 iowin 1 02000000 : plain
@@ -112,5 +132,11 @@ state io 0 line 000000 due 000000 remote 000000
 state io 1 line 010000 due 000000 remote 010000
 end
 ";
-    has_report(&rt, alloc, &board, silent_account(alloc), want);
+
+#[test]
+fn registers_that_hold_something(rt: HostRuntime) {
+    let alloc = rt.alloc();
+    let mut board = opened(&rt, alloc, second_io_apic(alloc));
+    steps(&rt, &mut board, level_turns());
+    has_report(&rt, alloc, &board, silent_account(alloc), REGISTERS);
 }

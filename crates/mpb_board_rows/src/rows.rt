@@ -21,35 +21,26 @@ pub fn at(agent: Agent, op: Op, at: u8, what: What) -> Row {
     }
 }
 
-/// The next op of the agent, with an outcome without a target.
-pub fn next(agent: Agent, op: Op, what: What) -> Row {
-    at(agent, op, 0, what)
-}
+/// An agent's op, and the target and the rest of its outcome.
+pub type Line = (Agent, Op, u8, What);
 
-/// A collection of these pins by the I/O APIC at this place, with the pins that become due and those that
-/// were.
-pub fn collection(place: u8, pins: u32, due: u32, joined: u32) -> Row {
+/// The row of a line: a collection and a sweep are offered as such, and every other op as the next one.
+pub fn row_of(line: Line) -> Row {
+    let (agent, op, at, what) = line;
     Row {
-        agent: Agent::Io(place),
-        offer: Offer::Collect(pins),
-        op: Op::Collect(pins),
-        outcome: Outcome {
-            at: 0,
-            what: What::Pins(due, joined),
-        },
+        agent,
+        offer: offer_of(op),
+        op,
+        outcome: Outcome { at, what },
     }
 }
 
-/// A sweep of the I/O APIC at this place.
-pub fn sweep(place: u8) -> Row {
-    Row {
-        agent: Agent::Io(place),
-        offer: Offer::Sweep,
-        op: Op::Sweep,
-        outcome: Outcome {
-            at: 0,
-            what: What::Done,
-        },
+// the offer with which an op is made
+fn offer_of(op: Op) -> Offer {
+    match op {
+        Op::Collect(pins) => Offer::Collect(pins),
+        Op::Sweep => Offer::Sweep,
+        _ => Offer::Next,
     }
 }
 

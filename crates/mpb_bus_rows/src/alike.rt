@@ -32,6 +32,15 @@ fn has_sizes(rt: &impl Abort, account: &Account, logs: usize, counts: usize) {
     same(rt, "logs, and counts", got, (logs, counts));
 }
 
+/// Asserts that the account is of three pulses on one pin, the first of them New, and of one collection of pin 1.
+fn has_three_logs(rt: &impl Abort, account: &Account, pulse: Pulse) {
+    has_sizes(rt, account, 3, 1);
+    has_log(rt, account, 0, pulse, Hit::New);
+    has_log(rt, account, 1, pulse, Hit::Merged);
+    has_log(rt, account, 2, pulse, Hit::Merged);
+    same(rt, "the counts", pin_1_was_collected_once(account), true);
+}
+
 /// Whether the counts are those of one I/O APIC whose pin 1 alone was collected, once.
 fn pin_1_was_collected_once(account: &Account) -> bool {
     let [counts] = account.collected.as_slice() else {
@@ -79,11 +88,7 @@ fn three_devices_pulse_one_pin(rt: HostRuntime) -> Result<(), Fail> {
     both_collect(&rt, &mut plain, &latch, &mut col, 0);
     both_say(&rt, &plain, &latch, &mut col, true);
     let account = closed(alloc, latch, first, second, third, col)?;
-    has_sizes(&rt, &account, 3, 1);
-    has_log(&rt, &account, 0, pulse, Hit::New);
-    has_log(&rt, &account, 1, pulse, Hit::Merged);
-    has_log(&rt, &account, 2, pulse, Hit::Merged);
-    same(&rt, "the counts", pin_1_was_collected_once(&account), true);
+    has_three_logs(&rt, &account, pulse);
     Ok(())
 }
 

@@ -1,6 +1,6 @@
 //! The boards of the rows.
 
-ghost use Rattle.std.specs.Prelude.{◌≡◌, ◌<◌, ◌≤◌, ◌^◌, All, IfOk, IfSome, length, vec_len};
+ghost use Rattle.std.specs.Prelude.{◌≡◌, ◌<◌, ◌≤◌, ◌+◌, ◌^◌, All, IfOk, IfSome, length, map, sum_by, vec_len};
 ghost use Rattle.mpb_spec.specs.Plan.{plan_size};
 
 use mpb_board::{Config, CpuConfig, DevWord, Op};
@@ -19,6 +19,16 @@ fn processor(alloc: Global, id: u8, program: &[Op]) -> Result<CpuConfig, AllocEr
     })
 }
 
+/// Two processors, ids 0 and 1, with these programs.
+fn pair(alloc: Global, first: &[Op], second: &[Op]) -> Result<Vec<CpuConfig>, AllocError>
+    requires { (length first.now ≤ 100) × (length second.now ≤ 100) }
+    ensures { IfOk result (λ cpus. sum_by (λ p. length p.program) cpus.items ≤ 200) }
+{
+    let first = processor(alloc, 0, first)?;
+    let second = processor(alloc, 1, second)?;
+    Ok(vec![in alloc; first, second]?)
+}
+
 /// Two processors, ids 0 (boot) and 1, and nothing else. The boot program starts processor 1 at page
 /// 9Fh, which then makes these ops.
 pub fn two_processors(alloc: Global, words: &[Op]) -> Result<Option<Config>, AllocError>
@@ -34,10 +44,28 @@ pub fn two_processors(alloc: Global, words: &[Op]) -> Result<Option<Config>, All
         Op::Pause(200),
         Op::Check(1),
     ];
-    let mut cpus = Vec::new(alloc);
-    cpus.push(processor(alloc, 0, program.as_slice())?)?;
-    cpus.push(processor(alloc, 1, words)?)?;
+    let cpus = pair(alloc, &program, words)?;
     Ok(config_of(0x9F, 0, 7, cpus, Vec::new(alloc), false, Vec::new(alloc)))
+}
+
+/// Processor 0 with this program.
+fn one_processor(alloc: Global, program: &[Op]) -> Result<Vec<CpuConfig>, AllocError>
+    requires { length program.now ≤ 100 }
+    ensures { IfOk result (λ cpus. sum_by (λ p. length p.program) cpus.items ≤ 100) }
+{
+    let cpu = processor(alloc, 0, program)?;
+    Ok(vec![in alloc; cpu]?)
+}
+
+/// Three devices, each of which pulses pin 1 of the first I/O APIC.
+fn three_devices(alloc: Global) -> Result<Vec<Vec<DevWord>>, AllocError>
+    ensures { IfOk result (λ devices. sum_by (λ words. length words + 2) (map (λ words. words.items) devices.items) ≤ 9) }
+{
+    let words = [DevWord::Pulse(0, 1)];
+    let first = words.to_vec(alloc)?;
+    let second = words.to_vec(alloc)?;
+    let third = words.to_vec(alloc)?;
+    Ok(vec![in alloc; first, second, third]?)
 }
 
 /// One processor and one I/O APIC of id 1, whose pin 1 the boot program unmasks with vector 21h as an
@@ -53,12 +81,8 @@ pub fn three_pulses(alloc: Global) -> Result<Option<Config>, AllocError>
         Op::Take,
         Op::Eoi,
     ];
-    let mut cpus = Vec::new(alloc);
-    cpus.push(processor(alloc, 0, program.as_slice())?)?;
-    let mut devices = Vec::new(alloc);
-    devices.push([DevWord::Pulse(0, 1)].to_vec(alloc)?)?;
-    devices.push([DevWord::Pulse(0, 1)].to_vec(alloc)?)?;
-    devices.push([DevWord::Pulse(0, 1)].to_vec(alloc)?)?;
+    let cpus = one_processor(alloc, &program)?;
+    let devices = three_devices(alloc)?;
     let ios = [1].to_vec(alloc)?;
     Ok(config_of(0, 0, 4, cpus, ios, false, devices))
 }

@@ -1,13 +1,12 @@
 //! What a meeting tells.
 
-ghost use Rattle.std.specs.Prelude.{◌≡◌, ◌∷◌, ◌++◌, [], IfOk, IfSome};
+ghost use Rattle.std.specs.Prelude.{◌≡◌, ◌∷◌, ◌++◌, [], All, IfSome};
 ghost use Rattle.mpb_spec.specs.Agents.{IsPrefix, entries_of};
 
 use crate::boards::two_processors;
 use crate::harness::opened;
 use mpb_board::{Entry, Offer, Op};
 use mpb_bus::{Bus, BusSeat, Turn};
-use std::alloc::Global;
 use std::process::Abort;
 use std::sync::Wait;
 use std::test::Fail;
@@ -44,35 +43,43 @@ fn three_turns_and_a_meeting<R: Wait>(
     Some((first, second, third))
 }
 
-/// A bus over two processors, of which the second makes a pause, and its two seats.
-fn two_seats(alloc: Global) -> Result<(Bus, BusSeat, BusSeat), Fail>
-    ensures { IfOk result (λ made. (made.1.bus ≡ made.0.bus) × (made.2.bus ≡ made.0.bus)) }
-{
-    let (bus, mut seats) = opened(alloc, two_processors(alloc, &[Op::Pause(1)])?)?;
-    let two = seats.pop().ok_or("no seats")?;
-    let one = seats.pop().ok_or("no two seats")?;
-    Ok((bus, one, two))
-}
-
 /// Asserts the op of an entry.
 fn has_op(rt: &impl Abort, entry: &Entry, want: Op) {
     let got = entry.op;
     assert!(rt; got == want, "another op");
 }
 
-#[test]
-fn meeting_tells_three_entries(rt: HostRuntime) -> Result<(), Fail> {
-    let (bus, mut one, mut two) = two_seats(rt.alloc())?;
-    let Some((first, second, third)) = three_turns_and_a_meeting(&rt, &bus, &mut one, &mut two)
-    else {
+/// Asserts the ops of three turns of `one`, and of a turn of `two` behind their meeting.
+fn tells<R: Wait + Abort>(rt: &R, bus: &Bus, one: &mut BusSeat, two: &mut BusSeat)
+    requires { (one.old.bus ≡ bus.now.bus) × (two.old.bus ≡ bus.now.bus) }
+{
+    let Some((first, second, third)) = three_turns_and_a_meeting(rt, bus, one, two) else {
         panic!(rt; "no three entries");
     };
-    has_op(&rt, &first, Op::Init(1));
-    has_op(&rt, &second, Op::Pause(10_000));
-    has_op(&rt, &third, Op::Startup(1, 0x9F));
-    let Some(fourth) = entry_of(&rt, &bus, &mut two) else {
+    has_op(rt, &first, Op::Init(1));
+    has_op(rt, &second, Op::Pause(10_000));
+    has_op(rt, &third, Op::Startup(1, 0x9F));
+    let Some(fourth) = entry_of(rt, bus, two) else {
         panic!(rt; "no fourth entry");
     };
-    has_op(&rt, &fourth, Op::Pause(1));
+    has_op(rt, &fourth, Op::Pause(1));
+}
+
+/// The same of two seats.
+fn two_tell<R: Wait + Abort>(rt: &R, bus: &Bus, seats: &mut [BusSeat])
+    requires { All (λ s. s.bus ≡ bus.now.bus) seats.old }
+{
+    match seats {
+        [one, two] => tells(rt, bus, one, two),
+        _ => panic!(rt; "no two seats"),
+    }
+}
+
+#[test]
+fn meeting_tells_three_entries(rt: HostRuntime) -> Result<(), Fail> {
+    // Two processors, of which the second makes a pause
+    let config = two_processors(rt.alloc(), &[Op::Pause(1)])?;
+    let (bus, mut seats) = opened(rt.alloc(), config)?;
+    two_tell(&rt, &bus, seats.as_mut_slice());
     Ok(())
 }

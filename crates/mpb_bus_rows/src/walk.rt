@@ -23,22 +23,32 @@ fn are_same(one: &Entry, two: &Entry) -> bool {
     one.agent == two.agent && one.op == two.op && one.outcomes.as_slice() == two.outcomes.as_slice()
 }
 
+/// Whether the board makes this entry next.
+fn makes(board: &mut Board, entry: &Entry) -> bool {
+    let offer = offer_of(entry.op);
+    if !board.can_step(entry.agent, offer) {
+        return false;
+    }
+    let made = board.step(entry.agent, offer);
+    are_same(&made, entry)
+}
+
+/// Whether the board makes these entries, one after the other, and is then at its end.
+fn makes_all(board: &mut Board, journal: &[Entry]) -> bool {
+    for entry in journal {
+        if !makes(board, entry) {
+            return false;
+        }
+    }
+    board.quiet()
+}
+
 /// Whether a new board of the config makes these entries, one after the other, and is then at its end.
 fn is_walked(alloc: Global, config: Config, journal: &[Entry]) -> Result<bool, NoMemory>
     requires { plan_size config < 2 ^ 32 }
 {
     let mut board = Board::new(alloc, config)?;
-    for entry in journal {
-        let offer = offer_of(entry.op);
-        if !board.can_step(entry.agent, offer) {
-            return Ok(false);
-        }
-        let made = board.step(entry.agent, offer);
-        if !are_same(&made, entry) {
-            return Ok(false);
-        }
-    }
-    Ok(board.quiet())
+    Ok(makes_all(&mut board, journal))
 }
 
 /// Asserts that there is a config, and that a new board of it makes these entries.

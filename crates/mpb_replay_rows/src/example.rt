@@ -1,6 +1,6 @@
 //! Boards, and the report of one of their runs.
 
-ghost use Rattle.std.specs.Prelude.{◌≡◌, ◌≤◌, ◌<◌, ◌^◌, IfOk, IfSome, length};
+ghost use Rattle.std.specs.Prelude.{◌≡◌, ◌≤◌, ◌<◌, ◌+◌, ◌^◌, IfOk, IfSome, length, map, sum_by};
 ghost use Rattle.mpb_spec.specs.Plan.{plan_size};
 
 use arrayvec::ArrayVec;
@@ -14,10 +14,52 @@ use std::alloc::{AllocError, Global};
 /// The agent, the op and what came of it, without a target.
 pub(crate) type Line = (Agent, Op, What);
 
+/// A processor of version 10h.
+fn processor(alloc: Global, id: u8, program: &[Op]) -> Result<CpuConfig, AllocError>
+    requires { length program.now ≤ 100 }
+    ensures { IfOk result (λ p. length p.program ≤ 100) }
+{
+    Ok(CpuConfig {
+        id,
+        version: 0x10,
+        program: program.to_vec(alloc)?,
+    })
+}
+
+/// Processor 0 with this program.
+fn one_processor(alloc: Global, program: &[Op]) -> Result<Vec<CpuConfig>, AllocError>
+    requires { length program.now ≤ 100 }
+    ensures { IfOk result (λ cpus. sum_by (λ p. length p.program) cpus.items ≤ 100) }
+{
+    let cpu = processor(alloc, 0, program)?;
+    Ok(vec![in alloc; cpu]?)
+}
+
+/// Processors 0 and 1 with these programs.
+fn pair(alloc: Global, first: &[Op], second: &[Op]) -> Result<Vec<CpuConfig>, AllocError>
+    requires { (length first.now ≤ 100) × (length second.now ≤ 100) }
+    ensures { IfOk result (λ cpus. sum_by (λ p. length p.program) cpus.items ≤ 200) }
+{
+    let first = processor(alloc, 0, first)?;
+    let second = processor(alloc, 1, second)?;
+    Ok(vec![in alloc; first, second]?)
+}
+
+/// Three devices, each of which pulses pin 1 of the first I/O APIC.
+fn three_devices(alloc: Global) -> Result<Vec<Vec<DevWord>>, AllocError>
+    ensures { IfOk result (λ devices. sum_by (λ words. length words + 2) (map (λ words. words.items) devices.items) ≤ 9) }
+{
+    let words = [DevWord::Pulse(0, 1)];
+    let first = words.to_vec(alloc)?;
+    let second = words.to_vec(alloc)?;
+    let third = words.to_vec(alloc)?;
+    Ok(vec![in alloc; first, second, third]?)
+}
+
 /// One processor and one I/O APIC of id 1, whose pin 1 the boot program unmasks with vector 21h as an edge
 /// pin; then the processor takes an interrupt and ends it. Three devices pulse the pin once each.
-pub(crate) fn three_pulses(alloc: Global) -> Result<Config, AllocError>
-    ensures { IfOk result (λ c. plan_size c < 2 ^ 32) }
+pub(crate) fn three_pulses(alloc: Global) -> Result<Option<Config>, AllocError>
+    ensures { IfOk result (λ made. IfSome made (λ c. plan_size c < 2 ^ 32)) }
 {
     let program = [
         Op::IoSel(0, 0x13),
@@ -26,26 +68,11 @@ pub(crate) fn three_pulses(alloc: Global) -> Result<Config, AllocError>
         Op::IoWin(0, 0x21),
         Op::Take,
         Op::Eoi,
-    ]
-    .to_vec(alloc)?;
-    let mut cpus = Vec::new(alloc);
-    cpus.push(CpuConfig {
-        id: 0,
-        version: 0x10,
-        program,
-    })?;
-    let mut devices = Vec::new(alloc);
-    devices.push([DevWord::Pulse(0, 1)].to_vec(alloc)?)?;
-    devices.push([DevWord::Pulse(0, 1)].to_vec(alloc)?)?;
-    devices.push([DevWord::Pulse(0, 1)].to_vec(alloc)?)?;
-    Ok(Config {
-        boot: 0,
-        boot_len: 4,
-        cpus,
-        ios: [1].to_vec(alloc)?,
-        imcr: false,
-        devices,
-    })
+    ];
+    let cpus = one_processor(alloc, &program)?;
+    let devices = three_devices(alloc)?;
+    let ios = [1].to_vec(alloc)?;
+    Ok(config_of(0x9F, 0, 4, cpus, ios, false, devices))
 }
 
 /// Two processors, of which the second waits for its start, and one I/O APIC. There are no devices, so the
@@ -53,40 +80,32 @@ pub(crate) fn three_pulses(alloc: Global) -> Result<Config, AllocError>
 pub(crate) fn two_processors(alloc: Global) -> Result<Option<Config>, AllocError>
     ensures { IfOk result (λ made. IfSome made (λ c. plan_size c < 2 ^ 32)) }
 {
-    let program = [Op::Init(1), Op::Startup(1, 0x9F), Op::Check(1)].to_vec(alloc)?;
-    let mut cpus = Vec::new(alloc);
-    cpus.push(CpuConfig {
-        id: 0,
-        version: 0x10,
-        program,
-    })?;
-    cpus.push(CpuConfig {
-        id: 1,
-        version: 0x10,
-        program: [Op::Poll].to_vec(alloc)?,
-    })?;
+    let boot = [Op::Init(1), Op::Startup(1, 0x9F), Op::Check(1)];
+    let cpus = pair(alloc, &boot, &[Op::Poll])?;
     let ios = [2].to_vec(alloc)?;
     Ok(config_of(0x9F, 0, 3, cpus, ios, false, Vec::new(alloc)))
 }
 
 /// The entries of the run with three pulses.
-pub(crate) const LINES: [Line; 15] = [
-    (Agent::Cpu(0), Op::IoSel(0, 0x13), What::Done),
-    (Agent::Cpu(0), Op::IoWin(0, 0), What::Plain),
-    (Agent::Cpu(0), Op::IoSel(0, 0x12), What::Done),
-    (Agent::Cpu(0), Op::IoWin(0, 0x21), What::Plain),
-    (Agent::Dev(0), Op::Begin, What::Done),
-    (Agent::Dev(1), Op::Begin, What::Done),
-    (Agent::Dev(2), Op::Begin, What::Done),
-    (Agent::Io(0), Op::Collect(2), What::Pins(2, 0)),
-    (Agent::Dev(0), Op::End, What::Done),
-    (Agent::Dev(1), Op::End, What::Done),
-    (Agent::Dev(2), Op::End, What::Done),
-    (Agent::Io(0), Op::Send(1), What::Set),
-    (Agent::Cpu(0), Op::Take, What::Taken(0x21)),
-    (Agent::Io(0), Op::Sweep, What::Done),
-    (Agent::Cpu(0), Op::Eoi, What::Ended(0x21, false)),
-];
+pub(crate) fn run_lines() -> [Line; 15] {
+    [
+        (Agent::Cpu(0), Op::IoSel(0, 0x13), What::Done),
+        (Agent::Cpu(0), Op::IoWin(0, 0), What::Plain),
+        (Agent::Cpu(0), Op::IoSel(0, 0x12), What::Done),
+        (Agent::Cpu(0), Op::IoWin(0, 0x21), What::Plain),
+        (Agent::Dev(0), Op::Begin, What::Done),
+        (Agent::Dev(1), Op::Begin, What::Done),
+        (Agent::Dev(2), Op::Begin, What::Done),
+        (Agent::Io(0), Op::Collect(2), What::Pins(2, 0)),
+        (Agent::Dev(0), Op::End, What::Done),
+        (Agent::Dev(1), Op::End, What::Done),
+        (Agent::Dev(2), Op::End, What::Done),
+        (Agent::Io(0), Op::Send(1), What::Set),
+        (Agent::Cpu(0), Op::Take, What::Taken(0x21)),
+        (Agent::Io(0), Op::Sweep, What::Done),
+        (Agent::Cpu(0), Op::Eoi, What::Ended(0x21, false)),
+    ]
+}
 
 fn entry_of(line: Line) -> Entry {
     let mut outcomes = ArrayVec::new();
@@ -134,6 +153,38 @@ fn ios_of(alloc: Global, remotes: &[u32]) -> Result<Vec<IoLine>, AllocError> {
     Ok(ios)
 }
 
+// the line of processor 0, which has nothing
+fn cpus_of(alloc: Global) -> Result<Vec<CpuLine>, AllocError> {
+    let cpu = CpuLine {
+        id: 0,
+        life: Life::First,
+        tpr: 0,
+        irr: Sequence::new(Vec::new(alloc)),
+        isr: Sequence::new(Vec::new(alloc)),
+        tmr: Sequence::new(Vec::new(alloc)),
+    };
+    Ok(vec![in alloc; cpu]?)
+}
+
+// the report with these entries and logs, and these lines of I/O APICs
+fn report_with(
+    alloc: Global,
+    entries: Vec<Entry>,
+    logs: Vec<Sequence<(Pulse, Hit)>>,
+    ios: Vec<IoLine>,
+) -> Result<Report, AllocError>
+    ensures { IfOk result (λ r. r.entries ≡ entries.items) }
+{
+    let cpus = cpus_of(alloc)?;
+    Ok(Report {
+        entries: Sequence::new(entries),
+        logs: Sequence::new(logs),
+        imcr: Imcr::Absent,
+        cpus: Sequence::new(cpus),
+        ios: Sequence::new(ios),
+    })
+}
+
 /// The report with these entries and logs, and with these values of remote IRR in its last lines.
 pub(crate) fn report_of(
     alloc: Global,
@@ -143,21 +194,8 @@ pub(crate) fn report_of(
 ) -> Result<Report, AllocError>
     ensures { IfOk result (λ r. length r.entries ≤ length lines.now) }
 {
-    let mut cpus = Vec::new(alloc);
-    cpus.push(CpuLine {
-        id: 0,
-        life: Life::First,
-        tpr: 0,
-        irr: Sequence::new(Vec::new(alloc)),
-        isr: Sequence::new(Vec::new(alloc)),
-        tmr: Sequence::new(Vec::new(alloc)),
-    })?;
+    let entries = entries_of(alloc, lines)?;
+    let logs = logs_of(alloc, hits)?;
     let ios = ios_of(alloc, remotes)?;
-    Ok(Report {
-        entries: Sequence::new(entries_of(alloc, lines)?),
-        logs: Sequence::new(logs_of(alloc, hits)?),
-        imcr: Imcr::Absent,
-        cpus: Sequence::new(cpus),
-        ios: Sequence::new(ios),
-    })
+    report_with(alloc, entries, logs, ios)
 }

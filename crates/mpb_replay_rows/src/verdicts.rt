@@ -3,9 +3,10 @@
 ghost use Rattle.std.specs.Prelude.{◌<◌, ◌^◌, length};
 ghost use Rattle.mpb_spec.specs.Plan.{plan_size};
 
-use crate::example::{LINES, Line, report_of, three_pulses, two_processors};
+use crate::example::{Line, report_of, run_lines, three_pulses, two_processors};
+use crate::reading::same;
 use mpb_board::{Agent, Config, Op, What};
-use mpb_replay::{BadWhy, Verdict, replay};
+use mpb_replay::{BadWhy, Report, Verdict, replay};
 use mpb_spec::Hit;
 use std::alloc::Global;
 use std::process::Abort;
@@ -246,14 +247,16 @@ const PLACES: &[Wrong] = &[
     },
 ];
 
+const ANOTHER_EFFECT: Wrong = Wrong {
+    name: "another effect of a write",
+    entry: 1,
+    line: (BOOT, Op::IoWin(0, 0), What::Due),
+    why: BadWhy::Outcome,
+};
+
 // something else came of the op
 const OUTCOMES: &[Wrong] = &[
-    Wrong {
-        name: "another effect of a write",
-        entry: 1,
-        line: (BOOT, Op::IoWin(0, 0), What::Due),
-        why: BadWhy::Outcome,
-    },
+    ANOTHER_EFFECT,
     Wrong {
         name: "pins that joined for pins that became due",
         entry: 7,
@@ -468,11 +471,19 @@ fn judged(rt: &impl Abort, alloc: Global, config: Config, lines: &[Line], row: &
     requires small { plan_size config < 2 ^ 32 }
     requires few { length lines.now < 2 ^ 32 }
 {
-    let Ok(report) = report_of(alloc, lines, row.hits, row.remotes) else {
-        panic!(rt; "out of memory");
-    };
-    match replay(alloc, config, &report) {
-        Ok(got) => assert_eq!(rt; got, row.want, "{}", row.name),
+    match report_of(alloc, lines, row.hits, row.remotes) {
+        Ok(report) => judged_report(rt, alloc, config, &report, row),
+        Err(_) => panic!(rt; "out of memory"),
+    }
+}
+
+// asserts the verdict on a report
+fn judged_report(rt: &impl Abort, alloc: Global, config: Config, report: &Report, row: &Row)
+    requires small { plan_size config < 2 ^ 32 }
+    requires few { length report.now.entries < 2 ^ 32 }
+{
+    match replay(alloc, config, report) {
+        Ok(got) => same(rt, row.name, got, row.want),
         Err(_) => panic!(rt; "out of memory"),
     }
 }
@@ -482,7 +493,8 @@ fn judged_run(rt: &impl Abort, alloc: Global, lines: &[Line], row: &Row)
     requires few { length lines.now < 2 ^ 32 }
 {
     match three_pulses(alloc) {
-        Ok(config) => judged(rt, alloc, config, lines, row),
+        Ok(Some(config)) => judged(rt, alloc, config, lines, row),
+        Ok(None) => panic!(rt; "no config"),
         Err(_) => panic!(rt; "out of memory"),
     }
 }
@@ -490,7 +502,7 @@ fn judged_run(rt: &impl Abort, alloc: Global, lines: &[Line], row: &Row)
 // asserts the verdict on its first entries
 fn judged_first(rt: &impl Abort, alloc: Global, row: &Row) {
     assert!(rt; row.entries <= 15);
-    judged_run(rt, alloc, &LINES[..row.entries], row);
+    judged_run(rt, alloc, &run_lines()[..row.entries], row);
 }
 
 fn are_judged(rt: &impl Abort, alloc: Global, rows: &[Row]) {
@@ -508,7 +520,7 @@ fn is_bad(
     remotes: &'static [u32],
 ) {
     assert!(rt; wrong.entry < 15);
-    let mut lines = LINES;
+    let mut lines = run_lines();
     lines[wrong.entry] = wrong.line;
     let want = Verdict::Bad {
         entry: wrong.entry as u32,
@@ -556,15 +568,15 @@ fn entries_that_are_steps(rt: HostRuntime) {
 #[test]
 fn verdicts_together(rt: HostRuntime) {
     are_judged(&rt, rt.alloc(), PAIRS);
-    is_bad(&rt, rt.alloc(), &OUTCOMES[0], TWICE_NEW, &[2]);
-    is_bad(&rt, rt.alloc(), &OUTCOMES[0], ONE_TOO_FEW, STILL);
+    is_bad(&rt, rt.alloc(), &ANOTHER_EFFECT, TWICE_NEW, &[2]);
+    is_bad(&rt, rt.alloc(), &ANOTHER_EFFECT, ONE_TOO_FEW, STILL);
 }
 
 #[test]
 fn a_bad_entry_before_others(rt: HostRuntime) {
-    let mut lines = LINES;
-    lines[1] = OUTCOMES[0].line;
-    lines[12] = OUTCOMES[2].line;
+    let mut lines = run_lines();
+    lines[1] = (BOOT, Op::IoWin(0, 0), What::Due);
+    lines[12] = (BOOT, Op::Take, What::Taken(0x22));
     let row = Row {
         name: "two bad entries",
         entries: 15,
@@ -587,12 +599,12 @@ fn a_bad_entry_before_others(rt: HostRuntime) {
 fn devices_that_have_not_ended(rt: HostRuntime) {
     // Each pulse has a collection of its own; the second and the third find the pin due.
     let joined = (IO, Op::Collect(2), What::Pins(0, 2));
-    let mut lines = LINES;
+    let mut lines = run_lines();
     lines[8] = joined;
     lines[9] = joined;
-    lines[10] = LINES[11];
-    lines[11] = LINES[12];
-    lines[12] = LINES[14];
+    lines[10] = lines[11];
+    lines[11] = lines[12];
+    lines[12] = lines[14];
     let row = Row {
         name: "no End, behind all collections",
         entries: 13,

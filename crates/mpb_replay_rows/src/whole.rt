@@ -1,8 +1,8 @@
 //! Whole reports, and such as are cut or go on.
 
 use crate::reading::{Answer, answer_to, report_of, same};
-use mpb_report_parse::{IoLine, Report};
-use mpb_spec::{Agent, Imcr, Life, Op, Outcome, What};
+use mpb_report_parse::{CpuLine, IoLine, Report};
+use mpb_spec::{Agent, Entry, Imcr, Life, Op, Outcome, What};
 use std::process::Abort;
 
 /// Two processors start, and there are no I/O APICs.
@@ -73,80 +73,95 @@ fn worked_reports_are_read(rt: HostRuntime) {
         answer_to(alloc, three_devices_text()),
         Answer::Report(15, 3, 1, 1),
     );
-    let Ok(report) = report_of(alloc, three_devices_text()) else {
-        panic!(&rt; "no report");
-    };
-    has_values(&rt, &report);
+    match report_of(alloc, three_devices_text()) {
+        Ok(report) => has_values(&rt, &report),
+        Err(_) => panic!(&rt; "no report"),
+    }
 }
 
 fn has_values(rt: &impl Abort, report: &Report) {
-    let Some(entry) = report.entries.as_slice().get(7) else {
-        panic!(rt; "no entry 7");
-    };
+    match report.entries.as_slice().get(7) {
+        Some(entry) => is_collection(rt, entry),
+        None => panic!(rt; "no entry 7"),
+    }
+    assert!(rt; report.imcr == Imcr::Absent);
+    match report.cpus.as_slice().first() {
+        Some(cpu) => is_first(rt, cpu),
+        None => panic!(rt; "no processor"),
+    }
+    match report.ios.as_slice().first() {
+        Some(io) => is_still(rt, io),
+        None => panic!(rt; "no I/O APIC"),
+    }
+}
+
+fn is_collection(rt: &impl Abort, entry: &Entry) {
     assert!(rt; entry.agent == Agent::Io(0));
     assert!(rt; entry.op == Op::Collect(2));
+    match entry.outcomes.as_slice().first() {
+        Some(outcome) => has_pin_1(rt, outcome),
+        None => panic!(rt; "no outcome"),
+    }
+}
+
+fn has_pin_1(rt: &impl Abort, outcome: &Outcome) {
     let pins = Outcome {
         at: 0,
         what: What::Pins(2, 0),
     };
-    assert!(rt; entry.outcomes.as_slice().first() == Some(&pins));
-    assert!(rt; report.imcr == Imcr::Absent);
-    let Some(cpu) = report.cpus.as_slice().first() else {
-        panic!(rt; "no processor");
-    };
+    assert!(rt; *outcome == pins);
+}
+
+fn is_first(rt: &impl Abort, cpu: &CpuLine) {
     assert!(rt; cpu.life == Life::First && cpu.tmr.as_slice().is_empty());
+}
+
+fn is_still(rt: &impl Abort, io: &IoLine) {
     let still = IoLine {
         line: 0,
         due: 0,
         remote: 0,
     };
-    assert!(rt; report.ios.as_slice().first() == Some(&still));
+    assert!(rt; *io == still);
+}
+
+// short texts, and the answers to them
+fn cut_and_longer_texts() -> &'static [(&'static str, &'static [u8], Answer)] {
+    &[
+        ("no bytes", b"", Answer::Early(1)),
+        ("the title alone", b"mpboot 1\n", Answer::Early(2)),
+        (
+            "a title without its line feed",
+            b"mpboot 1",
+            Answer::Form(1),
+        ),
+        (
+            "more entries than there are",
+            b"mpboot 1\nentries 99999999999999999999999999999999\n",
+            Answer::Early(3),
+        ),
+        ("a leading zero", b"mpboot 1\nentries 00\n", Answer::Form(2)),
+        (
+            "the shortest report",
+            b"mpboot 1\nentries 0\nstate imcr apic\nend\n",
+            Answer::Report(0, 0, 0, 0),
+        ),
+        (
+            "a line behind the end",
+            b"mpboot 1\nentries 0\nstate imcr apic\nend\n\n",
+            Answer::Late(5),
+        ),
+        (
+            "no end",
+            b"mpboot 1\nentries 0\nstate imcr apic\n",
+            Answer::Early(4),
+        ),
+    ]
 }
 
 #[test]
 fn cut_and_longer_reports_are_refused(rt: HostRuntime) {
-    let alloc = rt.alloc();
-    same(&rt, "no bytes", answer_to(alloc, b""), Answer::Early(1));
-    same(
-        &rt,
-        "the title alone",
-        answer_to(alloc, b"mpboot 1\n"),
-        Answer::Early(2),
-    );
-    same(
-        &rt,
-        "a title without its line feed",
-        answer_to(alloc, b"mpboot 1"),
-        Answer::Form(1),
-    );
-    let many = b"mpboot 1\nentries 99999999999999999999999999999999\n";
-    same(
-        &rt,
-        "more entries than there are",
-        answer_to(alloc, many),
-        Answer::Early(3),
-    );
-    let zero = b"mpboot 1\nentries 00\n";
-    same(
-        &rt,
-        "a leading zero",
-        answer_to(alloc, zero),
-        Answer::Form(2),
-    );
-    let least = b"mpboot 1\nentries 0\nstate imcr apic\nend\n";
-    same(
-        &rt,
-        "the shortest report",
-        answer_to(alloc, least),
-        Answer::Report(0, 0, 0, 0),
-    );
-    let late = b"mpboot 1\nentries 0\nstate imcr apic\nend\n\n";
-    same(
-        &rt,
-        "a line behind the end",
-        answer_to(alloc, late),
-        Answer::Late(5),
-    );
-    let cut = b"mpboot 1\nentries 0\nstate imcr apic\n";
-    same(&rt, "no end", answer_to(alloc, cut), Answer::Early(4));
+    for (name, text, want) in cut_and_longer_texts() {
+        same(&rt, name, answer_to(rt.alloc(), text), *want);
+    }
 }

@@ -1,6 +1,6 @@
 //! The boards of the rows.
 
-ghost use Rattle.std.specs.Prelude.{◌<◌, ◌≤◌, ◌^◌, IfOk, IfSome, length};
+ghost use Rattle.std.specs.Prelude.{◌<◌, ◌≤◌, ◌+◌, ◌^◌, IfOk, IfSome, length, map, sum_by};
 ghost use Rattle.mpb_spec.specs.Plan.{plan_size};
 
 use mpb_board::{Config, CpuConfig, DevWord, Op};
@@ -19,6 +19,16 @@ fn processor(alloc: Global, id: u8, version: u8, program: &[Op]) -> Result<CpuCo
     })
 }
 
+/// Processor 0, of version 10h, with this program, and processor 1 of this version, which has none.
+fn two_cpus(alloc: Global, version: u8, program: &[Op]) -> Result<Vec<CpuConfig>, AllocError>
+    requires { length program.now ≤ 100 }
+    ensures { IfOk result (λ cpus. sum_by (λ p. length p.program) cpus.items ≤ 200) }
+{
+    let first = processor(alloc, 0, 0x10, program)?;
+    let second = processor(alloc, 1, version, &[])?;
+    Ok(vec![in alloc; first, second]?)
+}
+
 /// Processor 0, which boots by this program, and processor 1 of this version, which does nothing once it
 /// is started at page 9Fh; and nothing else.
 fn pair(
@@ -30,9 +40,7 @@ fn pair(
     requires { length program.now ≤ 100 }
     ensures { IfOk result (λ made. IfSome made (λ c. plan_size c < 2 ^ 32)) }
 {
-    let mut cpus = Vec::new(alloc);
-    cpus.push(processor(alloc, 0, 0x10, program)?)?;
-    cpus.push(processor(alloc, 1, version, &[])?)?;
+    let cpus = two_cpus(alloc, version, program)?;
     let ios = Vec::new(alloc);
     Ok(config_of(0x9F, 0, boot_len, cpus, ios, false, Vec::new(alloc)))
 }
@@ -74,6 +82,26 @@ pub fn one_absent(alloc: Global) -> Result<Option<Config>, AllocError>
     pair(alloc, 1, &program, 11)
 }
 
+/// Processor 0, of version 10h, with this program.
+fn one_cpu(alloc: Global, program: &[Op]) -> Result<Vec<CpuConfig>, AllocError>
+    requires { length program.now ≤ 100 }
+    ensures { IfOk result (λ cpus. sum_by (λ p. length p.program) cpus.items ≤ 100) }
+{
+    let cpu = processor(alloc, 0, 0x10, program)?;
+    Ok(vec![in alloc; cpu]?)
+}
+
+/// Three devices, each of which pulses pin 1 of the first I/O APIC.
+fn three_devices(alloc: Global) -> Result<Vec<Vec<DevWord>>, AllocError>
+    ensures { IfOk result (λ devices. sum_by (λ words. length words + 2) (map (λ words. words.items) devices.items) ≤ 9) }
+{
+    let words = [DevWord::Pulse(0, 1)];
+    let first = words.to_vec(alloc)?;
+    let second = words.to_vec(alloc)?;
+    let third = words.to_vec(alloc)?;
+    Ok(vec![in alloc; first, second, third]?)
+}
+
 /// One processor and one I/O APIC of id 1, whose pin 1 the boot program unmasks with vector 21h as an
 /// edge pin; then the processor takes an interrupt and ends it. Three devices pulse the pin once each.
 pub fn three_pulses(alloc: Global) -> Result<Option<Config>, AllocError>
@@ -87,12 +115,8 @@ pub fn three_pulses(alloc: Global) -> Result<Option<Config>, AllocError>
         Op::Take,
         Op::Eoi,
     ];
-    let mut cpus = Vec::new(alloc);
-    cpus.push(processor(alloc, 0, 0x10, program.as_slice())?)?;
-    let mut devices = Vec::new(alloc);
-    devices.push([DevWord::Pulse(0, 1)].to_vec(alloc)?)?;
-    devices.push([DevWord::Pulse(0, 1)].to_vec(alloc)?)?;
-    devices.push([DevWord::Pulse(0, 1)].to_vec(alloc)?)?;
+    let cpus = one_cpu(alloc, &program)?;
+    let devices = three_devices(alloc)?;
     let ios = [1].to_vec(alloc)?;
     Ok(config_of(0, 0, 4, cpus, ios, false, devices))
 }

@@ -16,6 +16,7 @@ use mpb_setup::config;
 use mpb_tally::{Tally, tally_of};
 use mpt_route::{Platform, platform_of, routes};
 use std::alloc::Global;
+use std::process::Abort;
 use std::sync::Wait;
 use std::test::Fail;
 use std::thread::Threads;
@@ -49,14 +50,23 @@ fn configured(alloc: Global, platform: &Platform, script: &Script) -> Result<Con
     Ok(config(alloc, platform, answers.as_slice(), script)?)
 }
 
+/// The config of a platform and the script of a drill.
+fn with_script(alloc: Global, platform: &Platform, n: u32) -> Result<Config, Fail>
+    requires drill { n < 10000 }
+    requires small { IsSmallPlatform platform.now }
+    ensures { IfOk result (λ c. plan_size c < 2 ^ 32) }
+{
+    let script = script_for(alloc, n)?;
+    configured(alloc, platform, &script)
+}
+
 /// The config of a drill's board.
 fn config_for(alloc: Global, n: u32) -> Result<Config, Fail>
     requires { n < 10000 }
     ensures { IfOk result (λ c. plan_size c < 2 ^ 32) }
 {
     let platform = platform_for(alloc, n)?;
-    let script = script_for(alloc, n)?;
-    configured(alloc, &platform, &script)
+    with_script(alloc, &platform, n)
 }
 
 /// What a run by threads comes to.
@@ -110,17 +120,25 @@ fn in_turns(alloc: Global, n: u32) -> Result<[u64; 6], Fail>
     Ok(numbers(tally_in_turns(alloc, config)?))
 }
 
+/// Asserts the numbers of a drill's board, by threads and by the round robin.
+fn comes_to<R: Threads + Wait + Abort + Sync>(
+    rt: &R,
+    alloc: Global,
+    n: u32,
+    wanted: [u64; 6],
+) -> Result<(), Fail>
+    requires { n < 10000 }
+{
+    same(rt, "by threads", by_threads(rt, alloc, n)?, wanted);
+    same(rt, "in turns", in_turns(alloc, n)?, wanted);
+    Ok(())
+}
+
 /// Drills of two, eight and five processors: each pin is pulsed once, so each pulse is New, and the boot
 /// processor takes the vectors of all pins and of all other processors.
 #[test]
 fn drill_threads(rt: HostRuntime) -> Result<(), Fail> {
-    for (n, wanted) in [
-        (0, [1, 24, 24, 0, 25, 25]),
-        (6, [7, 72, 72, 0, 79, 79]),
-        (9999, [4, 96, 96, 0, 100, 100]),
-    ] {
-        same(&rt, "by threads", by_threads(&rt, rt.alloc(), n)?, wanted);
-        same(&rt, "in turns", in_turns(rt.alloc(), n)?, wanted);
-    }
-    Ok(())
+    comes_to(&rt, rt.alloc(), 0, [1, 24, 24, 0, 25, 25])?;
+    comes_to(&rt, rt.alloc(), 6, [7, 72, 72, 0, 79, 79])?;
+    comes_to(&rt, rt.alloc(), 9999, [4, 96, 96, 0, 100, 100])
 }

@@ -9,7 +9,9 @@ use crate::harness::{ran, same};
 use mpb_board::Config;
 use mpb_crew::NoGate;
 use mpb_report::report_text;
+use mpb_run::Ran;
 use std::alloc::Global;
+use std::process::Abort;
 use std::sync::Wait;
 use std::test::Fail;
 use std::thread::Threads;
@@ -57,21 +59,29 @@ fn report<R: Threads + Wait + Sync>(
     requires { IfSome config (λ c. plan_size c < 2 ^ 32) }
 {
     let ran = ran(rt, alloc, config, &NoGate)?;
+    report_of(alloc, &ran)
+}
+
+/// The report of a run.
+fn report_of(alloc: Global, ran: &Ran) -> Result<Vec<u8>, Fail> {
     Ok(report_text(alloc, &ran.board, &ran.account)?)
+}
+
+/// Asserts that a report is this text.
+fn is_text(rt: &impl Abort, name: &str, report: &[u8], want: &str) {
+    same(rt, name, str::from_utf8(report).unwrap_or(""), want);
 }
 
 #[test]
 fn two_processors_by_threads(rt: HostRuntime) -> Result<(), Fail> {
     let text = report(&rt, rt.alloc(), two_processors(rt.alloc())?)?;
-    let text = str::from_utf8(text.as_slice()).unwrap_or("");
-    same(&rt, "two processors", text, TWO_PROCESSORS);
+    is_text(&rt, "two processors", text.as_slice(), TWO_PROCESSORS);
     Ok(())
 }
 
 #[test]
 fn one_absent_by_threads(rt: HostRuntime) -> Result<(), Fail> {
     let text = report(&rt, rt.alloc(), one_absent(rt.alloc())?)?;
-    let text = str::from_utf8(text.as_slice()).unwrap_or("");
-    same(&rt, "one absent", text, ONE_ABSENT);
+    is_text(&rt, "one absent", text.as_slice(), ONE_ABSENT);
     Ok(())
 }

@@ -5,8 +5,8 @@ use crate::boards::three_pulses;
 use crate::harness::{ran, same};
 use mpb_board::{Board, Op};
 use mpb_crew::{Gate, NoGate};
-use mpb_run::Ran;
 use mpb_spec::{Account, Agent, Hit, What};
+use std::process::Abort;
 use std::sync::atomic::{AtomicU64, Ordering};
 use std::test::Fail;
 
@@ -55,23 +55,29 @@ fn collected_of(account: &Account) -> usize {
     *count as usize
 }
 
+/// Asserts that the account is of three pulses, and that as many of them are New as pin 1 was collected.
+fn is_balanced(rt: &impl Abort, account: &Account) {
+    let (hits, news) = hits_of(account);
+    same(rt, "pulses", hits, 3);
+    same(rt, "logs", account.logs.len(), 3);
+    let collected = collected_of(account);
+    same(rt, "New hits, and collections of pin 1", news, collected);
+}
+
+/// Asserts that the board is at its end, and has so many collections, one sweep, and an outcome Set.
+fn is_collected(rt: &impl Abort, board: &Board, collected: usize) {
+    same(rt, "whether the board is quiet", board.quiet(), true);
+    let collections = ops_of(board, Op::Collect(2));
+    same(rt, "collections", collections, collected);
+    same(rt, "sweeps", ops_of(board, Op::Sweep), 1);
+    assert!(rt; sets_of(board) > 0, "no outcome Set");
+}
+
 #[test]
 fn three_devices_by_threads(rt: HostRuntime) -> Result<(), Fail> {
-    let Ran { board, account } = ran(&rt, rt.alloc(), three_pulses(rt.alloc())?, &NoGate)?;
-    same(&rt, "whether the board is quiet", board.quiet(), true);
-    let (hits, news) = hits_of(&account);
-    same(&rt, "pulses", hits, 3);
-    same(&rt, "logs", account.logs.len(), 3);
-    let collected = collected_of(&account);
-    same(&rt, "New hits, and collections of pin 1", news, collected);
-    same(
-        &rt,
-        "collections",
-        ops_of(&board, Op::Collect(2)),
-        collected,
-    );
-    same(&rt, "sweeps", ops_of(&board, Op::Sweep), 1);
-    assert!(rt; sets_of(&board) > 0, "no outcome Set");
+    let ran = ran(&rt, rt.alloc(), three_pulses(rt.alloc())?, &NoGate)?;
+    is_balanced(&rt, &ran.account);
+    is_collected(&rt, &ran.board, collected_of(&ran.account));
     Ok(())
 }
 
@@ -117,29 +123,31 @@ impl Gate for CountGate {
     }
 }
 
+/// Asserts that the agent, which makes so many pulses, passes before each turn.
+fn passes_each_turn(rt: &impl Abort, gate: &CountGate, board: &Board, agent: Agent, pulses: u64) {
+    let turns = entries_of(board, agent).saturating_add(pulses);
+    assert!(rt;
+        gate.passes(agent) > turns,
+        "{agent:?} passes before each turn"
+    );
+}
+
+/// Asserts that each agent of the board passes before each turn, and nobody else.
+fn all_pass(rt: &impl Abort, gate: &CountGate, board: &Board) {
+    passes_each_turn(rt, gate, board, Agent::Cpu(0), 0);
+    passes_each_turn(rt, gate, board, Agent::Io(0), 0);
+    passes_each_turn(rt, gate, board, Agent::Dev(0), 1);
+    passes_each_turn(rt, gate, board, Agent::Dev(1), 1);
+    passes_each_turn(rt, gate, board, Agent::Dev(2), 1);
+    let others = gate.others.load(Ordering::SeqCst);
+    same(rt, "passes of nobody", others, 0);
+}
+
 /// Each turn is one entry or one pulse at most, and in the last one no agent may step.
 #[test]
 fn passes_are_counted(rt: HostRuntime) -> Result<(), Fail> {
     let gate = CountGate::new();
-    let Ran { board, .. } = ran(&rt, rt.alloc(), three_pulses(rt.alloc())?, &gate)?;
-    for (agent, pulses) in [
-        (Agent::Cpu(0), 0u64),
-        (Agent::Io(0), 0),
-        (Agent::Dev(0), 1),
-        (Agent::Dev(1), 1),
-        (Agent::Dev(2), 1),
-    ] {
-        let turns = entries_of(&board, agent).saturating_add(pulses);
-        assert!(rt;
-            gate.passes(agent) > turns,
-            "{agent:?} passes before each turn"
-        );
-    }
-    same(
-        &rt,
-        "passes of nobody",
-        gate.others.load(Ordering::SeqCst),
-        0,
-    );
+    let ran = ran(&rt, rt.alloc(), three_pulses(rt.alloc())?, &gate)?;
+    all_pass(&rt, &gate, &ran.board);
     Ok(())
 }
