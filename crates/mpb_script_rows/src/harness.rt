@@ -67,16 +67,22 @@ pub(crate) fn same<T: PartialEq + Debug + Drop>(rt: &impl Abort, name: &str, got
     assert_eq!(rt; got, want, "{name}");
 }
 
-/// Asserts the answer to a text, which has this name.
-pub(crate) fn answers(rt: &impl Abort, alloc: Global, name: &str, text: &[u8], line: &str) {
-    match answer_line(alloc, text) {
-        Ok(answer) => is_answered(rt, name, answer.as_str(), line),
-        Err(_) => panic!(rt; "out of memory"),
+/// What a call gave, or the end of the test where it failed.
+pub(crate) fn expect<T: Drop, E: Debug + Drop>(
+    rt: &impl Abort,
+    otherwise: &str,
+    answer: Result<T, E>,
+) -> T {
+    match answer {
+        Ok(value) => value,
+        Err(error) => panic!(rt; "{otherwise}: {error:?}"),
     }
 }
 
-fn is_answered(rt: &impl Abort, name: &str, answer: &str, line: &str) {
-    assert!(rt; answer == line, "{name}: {answer}, and not {line}");
+/// Asserts the answer to a text, which has this name.
+pub(crate) fn answers(rt: &impl Abort, alloc: Global, name: &str, text: &[u8], line: &str) {
+    let answer = expect(rt, "out of memory", answer_line(alloc, text));
+    same(rt, name, answer.as_str(), line);
 }
 
 /// Asserts the answer to the text of each row.
@@ -106,10 +112,8 @@ fn answers_words(
     made: Result<String, AllocError>,
     line: &str,
 ) {
-    match made {
-        Ok(text) => answers(rt, alloc, words, text.as_str().as_bytes(), line),
-        Err(_) => panic!(rt; "out of memory"),
-    }
+    let text = expect(rt, "out of memory", made);
+    answers(rt, alloc, words, text.as_str().as_bytes(), line);
 }
 
 /// Asserts the answer to the words of each row in a processor's program.

@@ -10,8 +10,14 @@ use std::process::Abort;
 fn script_of(rt: &impl Abort, alloc: Global, text: &str) -> Script {
     match parse(alloc, text.as_bytes()) {
         Ok(script) => script,
-        Err(ScriptFault::NoMemory) => panic!(rt; "no memory"),
-        Err(_) => panic!(rt; "refused"),
+        Err(fault) => panic!(rt; "{}", why(fault)),
+    }
+}
+
+fn why(fault: ScriptFault) -> &'static str {
+    match fault {
+        ScriptFault::NoMemory => "no memory",
+        _ => "refused",
     }
 }
 
@@ -93,8 +99,13 @@ words = []
 words = [\"pulse 0 23\", \"high 1 2\", \"low 3 0\"]
 ";
     let script = script_of(&rt, rt.alloc(), text);
-    has_numbers(&rt, &script, 0x9F, 32, 2, 1);
-    has_present(&rt, &script, &[0, 7, 7]);
+    has_every_word(&rt, &script);
+}
+
+/// Asserts what that script says.
+fn has_every_word(rt: &impl Abort, script: &Script) {
+    has_numbers(rt, script, 0x9F, 32, 2, 1);
+    has_present(rt, script, &[0, 7, 7]);
     let program = [
         Op::Ipi(1, 255),
         Op::Nmi(2),
@@ -110,14 +121,14 @@ words = [\"pulse 0 23\", \"high 1 2\", \"low 3 0\"]
         Op::Dfr(15),
         Op::Ipl(3, 64),
     ];
-    has_cpu(&rt, &script, 0, 7, &program);
-    has_cpu(&rt, &script, 1, 0, &[]);
+    has_cpu(rt, script, 0, 7, &program);
+    has_cpu(rt, script, 1, 0, &[]);
     let words = [
         DevWord::Pulse(0, 23),
         DevWord::High(1, 2),
         DevWord::Low(3, 0),
     ];
-    has_device(&rt, &script, 0, &words);
+    has_device(rt, script, 0, &words);
 }
 
 #[test]
@@ -126,13 +137,24 @@ fn three_devices_at_one_pin(rt: HostRuntime) {
 cpu = [{ id = 0, words = [\"take\", \"eoi\"] }]
 device = [{ words = [\"pulse 0 1\"] }, { words = [\"pulse 0 1\"] }, { words = [\"pulse 0 1\"] }]";
     let script = script_of(&rt, rt.alloc(), text);
-    has_numbers(&rt, &script, 0x9F, 0, 1, 3);
-    has_no_present(&rt, &script);
-    has_cpu(&rt, &script, 0, 0, &[Op::Take, Op::Eoi]);
+    has_three_devices(&rt, &script);
+}
+
+/// Asserts what that script says.
+fn has_three_devices(rt: &impl Abort, script: &Script) {
+    has_numbers(rt, script, 0x9F, 0, 1, 3);
+    has_no_present(rt, script);
+    has_cpu(rt, script, 0, 0, &[Op::Take, Op::Eoi]);
     let words = [DevWord::Pulse(0, 1)];
-    has_device(&rt, &script, 0, &words);
-    has_device(&rt, &script, 1, &words);
-    has_device(&rt, &script, 2, &words);
+    has_device(rt, script, 0, &words);
+    has_device(rt, script, 1, &words);
+    has_device(rt, script, 2, &words);
+}
+
+/// Asserts what a script says that names nobody.
+fn names_nobody(rt: &impl Abort, alloc: Global) {
+    let script = script_of(rt, alloc, "page = 0xC0\npresent = []");
+    has_present(rt, &script, &[]);
 }
 
 #[test]
@@ -140,6 +162,5 @@ fn a_page_alone(rt: HostRuntime) {
     let script = script_of(&rt, rt.alloc(), "page = 0xC0");
     has_numbers(&rt, &script, 0xC0, 0, 0, 0);
     has_no_present(&rt, &script);
-    let nobody = script_of(&rt, rt.alloc(), "page = 0xC0\npresent = []");
-    has_present(&rt, &nobody, &[]);
+    names_nobody(&rt, rt.alloc());
 }

@@ -1,34 +1,36 @@
 //! How many words a script may have, and want of memory.
 
-use crate::harness::{answer_line, answers};
+use crate::harness::{answer_line, answers, expect};
 use std::alloc::{AllocError, Global};
 use std::process::Abort;
-use std::test::Fail;
 
-/// The text of a script with as many words for a processor and for a device. The first key is this one.
-fn script_of(
-    alloc: Global,
+/// Writes a script with as many words for a processor and for a device. The first key is this one.
+fn push_script(
+    text: &mut Vec<u8>,
     first: &str,
     cpu: (usize, &str),
     device: (usize, &str),
-) -> Result<Vec<u8>, AllocError> {
-    let mut text = Vec::from_slice(alloc, first.as_bytes())?;
+) -> Result<(), AllocError> {
+    text.extend_from_slice(first.as_bytes())?;
     text.extend_from_slice(b"\n[[cpu]]\nid = 0\nwords = [")?;
-    push_words(&mut text, cpu)?;
+    push_words(text, cpu)?;
     text.extend_from_slice(b"]\n[[device]]\nwords = [")?;
-    push_words(&mut text, device)?;
-    text.extend_from_slice(b"]\n")?;
-    Ok(text)
+    push_words(text, device)?;
+    text.extend_from_slice(b"]\n")
 }
 
 /// Writes a word as often as is said.
 fn push_words(text: &mut Vec<u8>, words: (usize, &str)) -> Result<(), AllocError> {
     for _ in 0..words.0 {
-        text.extend_from_slice(b"\"")?;
-        text.extend_from_slice(words.1.as_bytes())?;
-        text.extend_from_slice(b"\",")?;
+        push_word(text, words.1)?;
     }
     Ok(())
+}
+
+fn push_word(text: &mut Vec<u8>, word: &str) -> Result<(), AllocError> {
+    text.extend_from_slice(b"\"")?;
+    text.extend_from_slice(word.as_bytes())?;
+    text.extend_from_slice(b"\",")
 }
 
 /// One script: its first key, words of the processor and of the device, the answer.
@@ -59,10 +61,10 @@ const SIZES: &[Sizes] = &[
 /// Asserts the answer to a script of these sizes.
 fn answers_sizes(rt: &impl Abort, alloc: Global, sizes: &Sizes) {
     let (first, cpu, device, line) = *sizes;
-    match script_of(alloc, first, cpu, device) {
-        Ok(text) => answers(rt, alloc, line, text.as_slice(), line),
-        Err(_) => panic!(rt; "out of memory"),
-    }
+    let mut text = Vec::new(alloc);
+    let pushed = push_script(&mut text, first, cpu, device);
+    expect(rt, "out of memory", pushed);
+    answers(rt, alloc, line, text.as_slice(), line);
 }
 
 #[test]
@@ -74,10 +76,13 @@ fn counts_of_words(rt: HostRuntime) {
 
 /// It passes too where an allocation fails: the answer is then want of memory.
 #[test]
-fn want_of_memory(rt: HostRuntime) -> Result<(), Fail> {
+fn want_of_memory(rt: HostRuntime) {
     let text =
         b"page = 1\npresent = [0]\ncpu = [{ id = 0, words = [\"ipi 0 48\"] }]\ndevice = [{ words = [\"low 0 0\"] }]";
-    let line = answer_line(rt.alloc(), text)?;
-    assert!(rt; line.as_str() == "script" || line.as_str() == "no memory");
-    Ok(())
+    let line = expect(&rt, "out of memory", answer_line(rt.alloc(), text));
+    is_script_or_no_memory(&rt, line.as_str());
+}
+
+fn is_script_or_no_memory(rt: &impl Abort, line: &str) {
+    assert!(rt; line == "script" || line == "no memory");
 }

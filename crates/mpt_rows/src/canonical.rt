@@ -38,24 +38,22 @@ fn bus(id: u8) -> Base {
 
 // tables in which every reserved bit is set, with their entries in another order than that of types
 fn reserved(rt: &impl Abort, alloc: Global) -> Tables {
-    let base = expect(rt, "out of memory", reserved_base(alloc));
+    let base = Vec::from_slice(alloc, &reserved_base());
+    let base = expect(rt, "out of memory", base);
     let ext = expect(rt, "out of memory", reserved_ext(alloc));
     with_reserved(listed(0xF_0000, 0x000F_0010, base, ext))
 }
 
-fn reserved_base(alloc: Global) -> Result<Vec<Base>, AllocError> {
-    Vec::from_slice(
-        alloc,
-        &[
-            Base::LocalInt(interrupt(0xFFFF)),
-            bus(2),
-            Base::IoInt(interrupt(0xFFFF)),
-            io_apic(0xFF),
-            bus(1),
-            Base::Processor(lone(0xFF, 0xFF)),
-            bus(2),
-        ],
-    )
+fn reserved_base() -> [Base; 7] {
+    [
+        Base::LocalInt(interrupt(0xFFFF)),
+        bus(2),
+        Base::IoInt(interrupt(0xFFFF)),
+        io_apic(0xFF),
+        bus(1),
+        Base::Processor(lone(0xFF, 0xFF)),
+        bus(2),
+    ]
 }
 
 fn reserved_ext(alloc: Global) -> Result<Vec<Ext>, AllocError> {

@@ -158,56 +158,27 @@ fn reads_each_base_entry_in_a_range(rt: HostRuntime) {
     same_base(&rt, rt.alloc(), &bytes, 3, 55, &expected);
 }
 
+/// Bytes that aren't base entries, and the place and the reason of their fault.
+const NO_BASE: &[(&[u8], u64, Reason)] = &[
+    (&[0x05, 0, 0, 0, 0, 0, 0, 0], 0, Reason::UnknownEntry),
+    (&[0xFF], 0, Reason::UnknownEntry),
+    (&[0x00; 19], 0, Reason::CutEntry),
+    (&[0x00, 0, 0, 0, 0, 0, 0, 0], 0, Reason::CutEntry),
+    (&[0x01, 0, 0, 0, 0, 0, 0], 0, Reason::CutEntry),
+    (&[0x02, 0, 0, 0, 0, 0, 0], 0, Reason::CutEntry),
+    (&[0x03, 0, 0, 0, 0, 0, 0], 0, Reason::CutEntry),
+    (&[0x04], 0, Reason::CutEntry),
+    (&[0x01, 0, 0, 0, 0, 0, 0, 0, 0x80], 8, Reason::UnknownEntry),
+    (&[0x01, 0, 0, 0, 0, 0, 0, 0, 0x00], 8, Reason::CutEntry),
+];
+
 #[test]
 fn tells_the_fault_of_base_entries(rt: HostRuntime) {
-    let alloc = rt.alloc();
-    same_base_fault(&rt, alloc, &[], None);
-    same_base_fault(
-        &rt,
-        alloc,
-        &[0x05, 0, 0, 0, 0, 0, 0, 0],
-        stop(0, Reason::UnknownEntry),
-    );
-    same_base_fault(&rt, alloc, &[0xFF], stop(0, Reason::UnknownEntry));
-    same_base_fault(&rt, alloc, &[0x00; 19], stop(0, Reason::CutEntry));
-    same_base_fault(
-        &rt,
-        alloc,
-        &[0x00, 0, 0, 0, 0, 0, 0, 0],
-        stop(0, Reason::CutEntry),
-    );
-    same_base_fault(
-        &rt,
-        alloc,
-        &[0x01, 0, 0, 0, 0, 0, 0],
-        stop(0, Reason::CutEntry),
-    );
-    same_base_fault(
-        &rt,
-        alloc,
-        &[0x02, 0, 0, 0, 0, 0, 0],
-        stop(0, Reason::CutEntry),
-    );
-    same_base_fault(
-        &rt,
-        alloc,
-        &[0x03, 0, 0, 0, 0, 0, 0],
-        stop(0, Reason::CutEntry),
-    );
-    same_base_fault(&rt, alloc, &[0x04], stop(0, Reason::CutEntry));
-    same_base_fault(
-        &rt,
-        alloc,
-        &[0x01, 0, 0, 0, 0, 0, 0, 0, 0x80],
-        stop(8, Reason::UnknownEntry),
-    );
-    same_base_fault(
-        &rt,
-        alloc,
-        &[0x01, 0, 0, 0, 0, 0, 0, 0, 0x00],
-        stop(8, Reason::CutEntry),
-    );
-    same_base_fault(&rt, alloc, &[0x01, 0, 0, 0, 0, 0, 0, 0], None);
+    same_base_fault(&rt, rt.alloc(), &[], None);
+    for (bytes, at, why) in NO_BASE {
+        same_base_fault(&rt, rt.alloc(), bytes, stop(*at, *why));
+    }
+    same_base_fault(&rt, rt.alloc(), &[0x01, 0, 0, 0, 0, 0, 0, 0], None);
 }
 
 #[test]
@@ -246,43 +217,29 @@ fn reads_the_longest_extended_entry(rt: HostRuntime) {
     same_opaque(&rt, entries.as_slice().first(), 0xFF, &[0x5A; 253]);
 }
 
+/// Bytes that aren't extended entries, and the place and the reason of their fault.
+const NO_EXT: &[(&[u8], u64, Reason)] = &[
+    (&[0x7F, 8, 0, 0, 0, 0, 0, 0], 0, Reason::BadExtType),
+    (&[0x00], 0, Reason::BadExtType),
+    (&[0x80], 0, Reason::CutExtEntry),
+    (&[0xFF], 0, Reason::CutExtEntry),
+    (&[0x80, 19], 1, Reason::BadExtLength),
+    (&[0x81, 9], 1, Reason::BadExtLength),
+    (&[0x82, 7], 1, Reason::BadExtLength),
+    (&[0x83, 1], 1, Reason::BadExtLength),
+    (&[0x83, 0], 1, Reason::BadExtLength),
+    (&[0x80, 20, 0], 0, Reason::CutExtEntry),
+    (&[0x81, 8, 0, 0, 0, 0, 0], 0, Reason::CutExtEntry),
+    (&[0x82, 8], 0, Reason::CutExtEntry),
+    (&[0x83, 3], 0, Reason::CutExtEntry),
+    (&[0x83, 2, 0x83, 1], 3, Reason::BadExtLength),
+    (&[0x83, 3, 0x41, 0x7F], 3, Reason::BadExtType),
+];
+
 #[test]
 fn tells_the_fault_of_extended_entries(rt: HostRuntime) {
-    let alloc = rt.alloc();
-    same_ext_fault(&rt, alloc, &[], None);
-    same_ext_fault(
-        &rt,
-        alloc,
-        &[0x7F, 8, 0, 0, 0, 0, 0, 0],
-        stop(0, Reason::BadExtType),
-    );
-    same_ext_fault(&rt, alloc, &[0x00], stop(0, Reason::BadExtType));
-    same_ext_fault(&rt, alloc, &[0x80], stop(0, Reason::CutExtEntry));
-    same_ext_fault(&rt, alloc, &[0xFF], stop(0, Reason::CutExtEntry));
-    same_ext_fault(&rt, alloc, &[0x80, 19], stop(1, Reason::BadExtLength));
-    same_ext_fault(&rt, alloc, &[0x81, 9], stop(1, Reason::BadExtLength));
-    same_ext_fault(&rt, alloc, &[0x82, 7], stop(1, Reason::BadExtLength));
-    same_ext_fault(&rt, alloc, &[0x83, 1], stop(1, Reason::BadExtLength));
-    same_ext_fault(&rt, alloc, &[0x83, 0], stop(1, Reason::BadExtLength));
-    same_ext_fault(&rt, alloc, &[0x80, 20, 0], stop(0, Reason::CutExtEntry));
-    same_ext_fault(
-        &rt,
-        alloc,
-        &[0x81, 8, 0, 0, 0, 0, 0],
-        stop(0, Reason::CutExtEntry),
-    );
-    same_ext_fault(&rt, alloc, &[0x82, 8], stop(0, Reason::CutExtEntry));
-    same_ext_fault(&rt, alloc, &[0x83, 3], stop(0, Reason::CutExtEntry));
-    same_ext_fault(
-        &rt,
-        alloc,
-        &[0x83, 2, 0x83, 1],
-        stop(3, Reason::BadExtLength),
-    );
-    same_ext_fault(
-        &rt,
-        alloc,
-        &[0x83, 3, 0x41, 0x7F],
-        stop(3, Reason::BadExtType),
-    );
+    same_ext_fault(&rt, rt.alloc(), &[], None);
+    for (bytes, at, why) in NO_EXT {
+        same_ext_fault(&rt, rt.alloc(), bytes, stop(*at, *why));
+    }
 }

@@ -40,14 +40,24 @@ fn sizes_are_told(rt: &impl Abort, shelf: &mut impl Shelf) {
     same_size(rt, shelf, ".", Err(Failed));
 }
 
+// the three bytes of a file from a place on
+fn same_three(
+    rt: &impl Abort,
+    shelf: &mut FileShelf<'_, HostRuntime>,
+    name: &str,
+    at: u64,
+    want: &[u8],
+) {
+    let mut buf = [0; 3];
+    same_read(rt, shelf, name, at, &mut buf, Ok(()));
+    same(rt, name, buf.as_slice(), want);
+}
+
 // parts of those two files, and parts that pass the end of one
 fn parts_are_read(rt: &impl Abort, shelf: &mut FileShelf<'_, HostRuntime>) {
-    let mut buf = [0; 3];
-    same_read(rt, shelf, "three", 0, &mut buf, Ok(()));
-    same(rt, "the bytes of three", buf, *b"xyz");
-    same_read(rt, shelf, "five", 1, &mut buf, Ok(()));
-    same(rt, "the bytes of five", buf, *b"123");
-    same_read(rt, shelf, "five", 3, &mut buf, Err(Failed));
+    same_three(rt, shelf, "three", 0, b"xyz");
+    same_three(rt, shelf, "five", 1, b"123");
+    same_read(rt, shelf, "five", 3, &mut [0; 3], Err(Failed));
     same_read(rt, shelf, "five", 6, &mut [], Err(Failed));
     same_read(rt, shelf, "five", 5, &mut [], Ok(()));
 }

@@ -2,7 +2,6 @@
 
 use crate::harness::{expect, same};
 use crate::tables::{default, listed, one_processor, usual};
-use mpt_base::NoMemory;
 use mpt_spec::{Base, Body, Bus, Ext, Opaque, Pointer, Sequence, Tables};
 use mpt_write::{block_bytes, fits, well_formed};
 use std::alloc::{AllocError, Global};
@@ -10,7 +9,7 @@ use std::process::Abort;
 
 // a table of one processor, of 64 bytes, at an address
 fn placed(rt: &impl Abort, alloc: Global, at: u64, address: u32) -> Tables {
-    let base = expect(rt, "out of memory", one_processor(alloc));
+    let base = one_processor(rt, alloc);
     listed(at, address, base, Vec::new(alloc))
 }
 
@@ -61,7 +60,7 @@ fn a_block_has_its_place_beside_the_pointer(rt: HostRuntime) {
 
 // whether a usual board with its table at F0010h fits, and its block, which has 260 bytes
 fn same_usual(rt: &impl Abort, alloc: Global, at: u64, want: bool) {
-    let base = expect(rt, "out of memory", usual(alloc));
+    let base = usual(rt, alloc);
     let tables = listed(at, 0x000F_0010, base, Vec::new(alloc));
     same(rt, "the pointer's place", (at, fits(&tables)), (at, want));
     same(rt, "the block", bytes_of(&tables), Some(260));
@@ -151,15 +150,12 @@ fn pointer_and_body_go_with_one_another(rt: HostRuntime) {
 }
 
 // that many bus entries, of eight bytes each
-fn buses(alloc: Global, count: usize) -> Result<Vec<Base>, NoMemory> {
+fn buses(rt: &impl Abort, alloc: Global, count: usize) -> Vec<Base> {
     let bus = Base::Bus(Bus {
         id: 0,
         name: *b"ISA   ",
     });
-    match Vec::from_elem(alloc, bus, count) {
-        Ok(entries) => Ok(entries),
-        Err(_) => Err(NoMemory),
-    }
+    expect(rt, "out of memory", Vec::from_elem(alloc, bus, count))
 }
 
 // an opaque entry of this type with a rest of that many zeros
@@ -196,7 +192,7 @@ fn push_opaques(
 
 // whether that many bus entries fit
 fn buses_fit(rt: &impl Abort, alloc: Global, count: usize) -> bool {
-    let base = expect(rt, "out of memory", buses(alloc, count));
+    let base = buses(rt, alloc, count);
     let tables = listed(0x500, 0x510, base, Vec::new(alloc));
     fits(&tables)
 }

@@ -19,7 +19,7 @@ fn same_listing(rt: &impl Abort, alloc: Global, tables: &Tables, want: &[u8]) {
 
 #[test]
 fn one_processor(rt: HostRuntime) {
-    let base = expect(&rt, "out of memory", tables::one_processor(rt.alloc()));
+    let base = tables::one_processor(&rt, rt.alloc());
     let described = listed(0xF0000, 0xF0010, base, Vec::new(rt.alloc()));
     let want = b"mptable 1
 pointer at 000F0000 table 000F0010 revision 04 features 0000000000
@@ -40,7 +40,7 @@ end
     same_listing(&rt, rt.alloc(), &described, want);
 }
 
-fn base_entries(alloc: Global) -> Result<Vec<Base>, AllocError> {
+fn each_base() -> [Base; 6] {
     let interrupt = IntEntry {
         kind: 3,
         flags: 0x1F0D,
@@ -49,35 +49,36 @@ fn base_entries(alloc: Global) -> Result<Vec<Base>, AllocError> {
         dest: 0xFF,
         pin: 0x17,
     };
-    Vec::from_slice(
-        alloc,
-        &[
-            Base::LocalInt(interrupt),
-            Base::Bus(Bus {
-                id: 0,
-                name: *b"PCI   ",
-            }),
-            Base::Bus(Bus {
-                id: 0xAB,
-                name: *b"\"\\\x7F\x00 ~",
-            }),
-            Base::IoApic(IoApic {
-                id: 8,
-                version: 0x11,
-                flags: 1,
-                address: 0xFEC01000,
-            }),
-            Base::IoInt(interrupt),
-            Base::Processor(Processor {
-                apic: 0x1E,
-                version: 0x14,
-                flags: 0x82,
-                signature: 0xDEADBEEF,
-                features: 0x12345678,
-                reserved: [1, 2, 3, 4, 0xA5, 6, 7, 0xF8],
-            }),
-        ],
-    )
+    [
+        Base::LocalInt(interrupt),
+        Base::Bus(Bus {
+            id: 0,
+            name: *b"PCI   ",
+        }),
+        Base::Bus(Bus {
+            id: 0xAB,
+            name: *b"\"\\\x7F\x00 ~",
+        }),
+        Base::IoApic(IoApic {
+            id: 8,
+            version: 0x11,
+            flags: 1,
+            address: 0xFEC01000,
+        }),
+        Base::IoInt(interrupt),
+        Base::Processor(Processor {
+            apic: 0x1E,
+            version: 0x14,
+            flags: 0x82,
+            signature: 0xDEADBEEF,
+            features: 0x12345678,
+            reserved: [1, 2, 3, 4, 0xA5, 6, 7, 0xF8],
+        }),
+    ]
+}
+
+fn base_entries(rt: &impl Abort, alloc: Global) -> Vec<Base> {
+    expect(rt, "out of memory", Vec::from_slice(alloc, &each_base()))
 }
 
 // an entry of another type with this rest
@@ -155,12 +156,9 @@ fn described(base: Vec<Base>, ext: Vec<Ext>) -> Tables {
     }
 }
 
-#[test]
-fn every_entry(rt: HostRuntime) {
-    let base = expect(&rt, "out of memory", base_entries(rt.alloc()));
-    let ext = ext_entries(&rt, rt.alloc());
-    let described = described(base, ext);
-    let want = b"mptable 1
+// the listing of those tables
+fn every_line() -> &'static [u8] {
+    b"mptable 1
 pointer at 000F0000 table 07FE0010 revision 04 features 0080FF0001
 header revision 04 oem \"OEM \\x1F ~\\x80\" product \"a'b\\x22c\\x5Cd\\x0Aef g\" oemtable 00ABCDEF oemsize 03A0 local FEE00000 reserved 5A
 localint kind 03 flags 1F0D bus 02 irq 4C dest FF pin 17
@@ -175,8 +173,15 @@ hierarchy bus 01 info 01 parent 00 reserved 00C009
 modifier bus 00 flags 01 ranges 80000001
 opaque kind FF rest 0FA022
 end
-";
-    same_listing(&rt, rt.alloc(), &described, want);
+"
+}
+
+#[test]
+fn every_entry(rt: HostRuntime) {
+    let base = base_entries(&rt, rt.alloc());
+    let ext = ext_entries(&rt, rt.alloc());
+    let described = described(base, ext);
+    same_listing(&rt, rt.alloc(), &described, every_line());
 }
 
 fn push_lines(out: &mut Vec<u8>) -> Result<(), AllocError> {

@@ -3,7 +3,7 @@
 
 use crate::harness::{expect, put, same};
 use mpt_pointer::{Area, Pointer, areas, find, read_pointer};
-use std::alloc::{AllocError, Global};
+use std::alloc::Global;
 use std::process::Abort;
 
 /// A floating pointer that names a table at F0010h.
@@ -12,8 +12,8 @@ const BYTES: [u8; 16] = [
 ];
 
 /// An image of zeros.
-pub(crate) fn zeros(alloc: Global, len: usize) -> Result<Vec<u8>, AllocError> {
-    vec![in alloc; 0; len]
+pub(crate) fn zeros(rt: &impl Abort, alloc: Global, len: usize) -> Vec<u8> {
+    expect(rt, "out of memory", Vec::from_elem(alloc, 0, len))
 }
 
 #[test]
@@ -82,6 +82,6 @@ fn first_is_found(rt: &impl Abort, image: &mut [u8]) {
 // multiples of 16.
 #[test]
 fn finds_the_first_of_the_search(rt: HostRuntime) {
-    let mut image = expect(&rt, "out of memory", zeros(rt.alloc(), 1360));
+    let mut image = zeros(&rt, rt.alloc(), 1360);
     first_is_found(&rt, image.as_mut_slice());
 }

@@ -7,7 +7,7 @@ use crate::tables::{ONE_PROCESSOR, lone};
 use mpt_base::{Fault, Reason};
 use mpt_spec::{Base, Table, Tables};
 use mpt_table::{Body, Pointer, Refusal, read};
-use std::alloc::{AllocError, Global};
+use std::alloc::Global;
 use std::process::Abort;
 
 /// A floating pointer that names the table at 510h.
@@ -16,13 +16,13 @@ const POINTER: [u8; 16] = [
 ];
 
 // an image of 1,360 bytes: the EBDA at 500h, the floating pointer there, a table of these bytes behind it
-fn small_image(alloc: Global, table: &[u8]) -> Result<Vec<u8>, AllocError> {
-    let mut image = zeros(alloc, 1360)?;
+fn small_image(rt: &impl Abort, alloc: Global, table: &[u8]) -> Vec<u8> {
+    let mut image = zeros(rt, alloc, 1360);
     let bytes = image.as_mut_slice();
     put(bytes, 0x40E, &[0x50]);
     put(bytes, 0x500, &POINTER);
     put(bytes, 0x510, table);
-    Ok(image)
+    image
 }
 
 // what the table of one processor says
@@ -67,8 +67,7 @@ fn same_tables(rt: &impl Abort, tables: &Tables) {
 
 #[test]
 fn describes_a_table_of_one_processor(rt: HostRuntime) {
-    let image = small_image(rt.alloc(), &ONE_PROCESSOR);
-    let image = expect(&rt, "out of memory", image);
+    let image = small_image(&rt, rt.alloc(), &ONE_PROCESSOR);
     let tables = expect(&rt, "refused", read(rt.alloc(), image.as_slice()));
     same_tables(&rt, &tables);
 }
@@ -81,8 +80,7 @@ fn same_refusal(rt: &impl Abort, alloc: Global, image: &[u8], want: Refusal) {
 
 // the first fault of the table of one processor with other bytes at these offsets
 fn same_fault(rt: &impl Abort, alloc: Global, changes: &[(usize, u8)], at: u64, why: Reason) {
-    let image = small_image(alloc, &ONE_PROCESSOR);
-    let mut image = expect(rt, "out of memory", image);
+    let mut image = small_image(rt, alloc, &ONE_PROCESSOR);
     change(image.as_mut_slice(), changes);
     let want = Refusal::Fault(Fault { at, why });
     same_refusal(rt, alloc, image.as_slice(), want);

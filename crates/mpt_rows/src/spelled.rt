@@ -130,18 +130,22 @@ fn base_entries() -> [Base; 5] {
     ]
 }
 
-#[test]
-fn writes_base_entries_behind_one_another(rt: HostRuntime) {
-    let pieces = [
+// their bytes behind a question mark
+fn base_pieces() -> [&'static [u8]; 5] {
+    [
         b"?\x00\x00\x10\x03\x20\x05\x00\x00\xBF\x01\x00\x00\x07\x07\x07\x07\x07\x07\x07\x07".as_slice(),
         b"\x01\x07ISA   ".as_slice(),
         b"\x02\x02\x11\x01\x00\x10\xC0\xFE".as_slice(),
         b"\x03\x01\x05\x0F\x02\x20\xFF\x10".as_slice(),
         b"\x04\x01\x05\x0F\x02\x20\xFF\x10".as_slice(),
-    ];
+    ]
+}
+
+#[test]
+fn writes_base_entries_behind_one_another(rt: HostRuntime) {
     let mut out = Vec::new(rt.alloc());
     expect(&rt, "no entries", push_base(&mut out, &base_entries()));
-    same_pieces(&rt, rt.alloc(), out.as_slice(), &pieces);
+    same_pieces(&rt, rt.alloc(), out.as_slice(), &base_pieces());
 }
 
 fn push_space(out: &mut Vec<u8>) -> Result<(), NoMemory> {
@@ -189,15 +193,19 @@ fn push_ext(out: &mut Vec<u8>, alloc: Global) -> Result<(), NoMemory> {
     push_opaque(out, alloc)
 }
 
-#[test]
-fn writes_extended_entries_behind_one_another(rt: HostRuntime) {
-    let pieces = [
+// their bytes
+fn ext_pieces() -> [&'static [u8]; 4] {
+    [
         b"\x80\x14\x00\x01\x00\x00\xC0\xFE\x00\x00\x00\x00\x00\x10\x00\x00\x01\x00\x00\x00".as_slice(),
         b"\x81\x08\x07\x01\x03\x09\x09\x09".as_slice(),
         b"\x82\x08\x04\x01\x04\x03\x02\x01".as_slice(),
         b"\xC8\x02".as_slice(),
-    ];
+    ]
+}
+
+#[test]
+fn writes_extended_entries_behind_one_another(rt: HostRuntime) {
     let mut out = Vec::new(rt.alloc());
     expect(&rt, "no entries", push_ext(&mut out, rt.alloc()));
-    same_pieces(&rt, rt.alloc(), out.as_slice(), &pieces);
+    same_pieces(&rt, rt.alloc(), out.as_slice(), &ext_pieces());
 }

@@ -1,10 +1,11 @@
 //! Tables that several rows use: one of one processor, and those of a usual board.
 
-use mpt_base::NoMemory;
+use crate::harness::expect;
 use mpt_spec::{
     Base, Body, Bus, Ext, IntEntry, IoApic, Pointer, Processor, Sequence, Table, Tables,
 };
-use std::alloc::{AllocError, Global};
+use std::alloc::Global;
+use std::process::Abort;
 
 /// The table of one processor, byte by byte.
 pub(crate) const ONE_PROCESSOR: [u8; 64] = [
@@ -27,10 +28,9 @@ pub(crate) fn lone(flags: u8, reserved: u8) -> Processor {
 }
 
 /// The base entries of that table.
-pub(crate) fn one_processor(alloc: Global) -> Result<Vec<Base>, AllocError> {
-    let mut base = Vec::new(alloc);
-    base.push(Base::Processor(lone(3, 0)))?;
-    Ok(base)
+pub(crate) fn one_processor(rt: &impl Abort, alloc: Global) -> Vec<Base> {
+    let entries = [Base::Processor(lone(3, 0))];
+    expect(rt, "out of memory", Vec::from_slice(alloc, &entries))
 }
 
 /// Tables with a floating pointer at a place that names a table at an address.
@@ -92,9 +92,9 @@ fn wire(kind: u8, bus: u8, irq: u8, dest: u8, pin: u8) -> IntEntry {
     }
 }
 
-/// The base entries of a board of two processors, two buses and one I/O APIC.
-pub(crate) fn usual(alloc: Global) -> Result<Vec<Base>, NoMemory> {
-    let entries = [
+// two processors, two buses, one I/O APIC and their interrupts
+fn usual_entries() -> [Base; 24] {
+    [
         processor(0, 3),
         processor(1, 1),
         Base::Bus(Bus {
@@ -130,9 +130,11 @@ pub(crate) fn usual(alloc: Global) -> Result<Vec<Base>, NoMemory> {
         Base::IoInt(wire(0, 1, 15, 0, 15)),
         Base::LocalInt(wire(3, 1, 0, 0, 0)),
         Base::LocalInt(wire(1, 1, 0, 0xFF, 1)),
-    ];
-    match Vec::from_slice(alloc, &entries) {
-        Ok(entries) => Ok(entries),
-        Err(_) => Err(NoMemory),
-    }
+    ]
+}
+
+/// The base entries of a board of two processors, two buses and one I/O APIC.
+pub(crate) fn usual(rt: &impl Abort, alloc: Global) -> Vec<Base> {
+    let entries = usual_entries();
+    expect(rt, "out of memory", Vec::from_slice(alloc, &entries))
 }

@@ -36,20 +36,23 @@ fn used(bytes: &[u8]) -> usize {
     count
 }
 
-// how many bytes of a part of an image are not 0
-fn same_used(rt: &impl Abort, part: Option<&[u8]>, want: usize) {
-    let Some(bytes) = part else {
-        panic!(rt; "the image has no such part");
+// the bytes of a block or an image from one place to another
+fn part<'a>(rt: &impl Abort, bytes: &'a [u8], from: usize, to: usize) -> &'a [u8] {
+    let Some(part) = bytes.get(from..to) else {
+        panic!(rt; "there is no such part");
     };
-    same(rt, "the bytes that are not 0", used(bytes), want);
+    part
+}
+
+// how many bytes of a part of an image are not 0
+fn same_used(rt: &impl Abort, image: &[u8], from: usize, to: usize, want: usize) {
+    let found = used(part(rt, image, from, to));
+    same(rt, "the bytes that are not 0", found, want);
 }
 
 // the bytes of a part of a block or an image
-fn same_part(rt: &impl Abort, name: &str, part: Option<&[u8]>, want: &[u8]) {
-    let Some(bytes) = part else {
-        panic!(rt; "there is no such part");
-    };
-    same(rt, name, bytes, want);
+fn same_part(rt: &impl Abort, name: &str, bytes: &[u8], from: usize, to: usize, want: &[u8]) {
+    same(rt, name, part(rt, bytes, from, to), want);
 }
 
 // the block that is written of tables
@@ -61,7 +64,7 @@ fn same_block(rt: &impl Abort, alloc: Global, tables: &Tables, want: &[u8]) {
 // a table of one processor, with one extended entry of another type that has nothing behind its length
 // byte
 fn opaque_tables(rt: &impl Abort, alloc: Global) -> Tables {
-    let base = expect(rt, "out of memory", one_processor(alloc));
+    let base = one_processor(rt, alloc);
     let ext = expect(rt, "out of memory", opaque_entry(alloc));
     listed(0xF_0000, 0x000F_0010, base, ext)
 }
@@ -88,13 +91,13 @@ fn opaque_block() -> [u8; 66] {
 
 // a usual board, with its floating pointer at F0000h and the table behind it
 fn usual_tables(rt: &impl Abort, alloc: Global) -> Tables {
-    let base = expect(rt, "out of memory", usual(alloc));
+    let base = usual(rt, alloc);
     listed(0xF_0000, 0x000F_0010, base, Vec::new(alloc))
 }
 
 #[test]
 fn writes_a_table_of_one_processor(rt: HostRuntime) {
-    let base = expect(&rt, "out of memory", one_processor(rt.alloc()));
+    let base = one_processor(&rt, rt.alloc());
     let tables = listed(0xF_0000, 0x000F_0010, base, Vec::new(rt.alloc()));
     same_block(&rt, rt.alloc(), &tables, &ONE_PROCESSOR);
 }
@@ -117,9 +120,9 @@ fn same_usual_block(rt: &impl Abort, block: &[u8]) {
     same(rt, "the size", block.len(), 260);
     same(rt, "the sum", sum8(block), 0);
     let head = b"PCMP\x04\x01\x04\xCE";
-    same_part(rt, "the head", block.get(..8), head);
+    same_part(rt, "the head", block, 0, 8, head);
     let last = b"\x04\x01\x00\x00\x01\x00\xFF\x01";
-    same_part(rt, "the last entry", block.get(252..), last);
+    same_part(rt, "the last entry", block, 252, 260, last);
 }
 
 #[test]
@@ -155,14 +158,11 @@ fn same_tables(rt: &impl Abort, got: &Tables, want: &Tables) {
 fn same_usual_image(rt: &impl Abort, image: &[u8], block: &[u8]) {
     same(rt, "the size", image.len(), 0x10_0000);
     let pointer = b"_MP_\x10\x00\x0F\x00\x01\x04\x81\0\0\0\0\0";
-    let found = image.get(0xF_0000..0xF_0010);
-    same_part(rt, "the pointer", found, pointer);
-    let found = image.get(0xF_0010..0xF_0114);
-    same_part(rt, "the table", found, block);
-    let found = image.get(0x40E..0x410);
-    same_part(rt, "the segment", found, b"\x00\xF0");
-    same_used(rt, image.get(..0xF_0000), 1);
-    same_used(rt, image.get(0xF_0114..), 0);
+    same_part(rt, "the pointer", image, 0xF_0000, 0xF_0010, pointer);
+    same_part(rt, "the table", image, 0xF_0010, 0xF_0114, block);
+    same_part(rt, "the segment", image, 0x40E, 0x410, b"\x00\xF0");
+    same_used(rt, image, 0, 0xF_0000, 1);
+    same_used(rt, image, 0xF_0114, 0x10_0000, 0);
 }
 
 // Only the EBDA segment and the floating pointer: the address of a default configuration names nothing.
@@ -176,10 +176,8 @@ fn writes_an_image_of_a_default_configuration(rt: HostRuntime) {
 // what an image of a default configuration has, and that it has nothing else
 fn same_default_image(rt: &impl Abort, image: &[u8]) {
     same(rt, "the size", image.len(), 0x10_0000);
-    let found = image.get(0x40E..0x410);
-    same_part(rt, "the segment", found, b"\xC0\x9F");
+    same_part(rt, "the segment", image, 0x40E, 0x410, b"\xC0\x9F");
     let pointer = b"_MP_\xFF\xFF\xFF\xFF\x01\x04\x9F\x05\0\0\0\0";
-    let found = image.get(0x9_FC00..0x9_FC10);
-    same_part(rt, "the pointer", found, pointer);
+    same_part(rt, "the pointer", image, 0x9_FC00, 0x9_FC10, pointer);
     same(rt, "nothing else", used(image), 2 + 12);
 }
