@@ -595,9 +595,9 @@ fn a_bad_entry_before_others(rt: HostRuntime) {
     judged_run(&rt, rt.alloc(), &lines[..2], &row);
 }
 
-#[test]
-fn devices_that_have_not_ended(rt: HostRuntime) {
-    // Each pulse has a collection of its own; the second and the third find the pin due.
+// Each pulse has a collection of its own; the second and the third find the pin due. No device ends, and behind the
+// first 13 lines are some that the run doesn't have.
+fn lines_without_ends() -> [Line; 15] {
     let joined = (IO, Op::Collect(2), What::Pins(0, 2));
     let mut lines = run_lines();
     lines[8] = joined;
@@ -605,6 +605,12 @@ fn devices_that_have_not_ended(rt: HostRuntime) {
     lines[10] = lines[11];
     lines[11] = lines[12];
     lines[12] = lines[14];
+    lines
+}
+
+#[test]
+fn devices_that_have_not_ended(rt: HostRuntime) {
+    let lines = lines_without_ends();
     let row = Row {
         name: "no End, behind all collections",
         entries: 13,
