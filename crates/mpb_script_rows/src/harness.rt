@@ -67,21 +67,9 @@ pub(crate) fn same<T: PartialEq + Debug + Drop>(rt: &impl Abort, name: &str, got
     assert_eq!(rt; got, want, "{name}");
 }
 
-/// What a call gave, or the end of the test where it failed.
-pub(crate) fn expect<T: Drop, E: Debug + Drop>(
-    rt: &impl Abort,
-    otherwise: &str,
-    answer: Result<T, E>,
-) -> T {
-    match answer {
-        Ok(value) => value,
-        Err(error) => panic!(rt; "{otherwise}: {error:?}"),
-    }
-}
-
 /// Asserts the answer to a text, which has this name.
 pub(crate) fn answers(rt: &impl Abort, alloc: Global, name: &str, text: &[u8], line: &str) {
-    let answer = expect(rt, "out of memory", answer_line(alloc, text));
+    let answer = answer_line(alloc, text).expect(rt, "out of memory");
     same(rt, name, answer.as_str(), line);
 }
 
@@ -112,7 +100,7 @@ fn answers_words(
     made: Result<String, AllocError>,
     line: &str,
 ) {
-    let text = expect(rt, "out of memory", made);
+    let text = made.expect(rt, "out of memory");
     answers(rt, alloc, words, text.as_str().as_bytes(), line);
 }
 

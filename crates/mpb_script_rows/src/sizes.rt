@@ -1,6 +1,6 @@
 //! How many words a script may have, and want of memory.
 
-use crate::harness::{answer_line, answers, expect};
+use crate::harness::{answer_line, answers};
 use std::alloc::{AllocError, Global};
 use std::process::Abort;
 
@@ -63,7 +63,7 @@ fn answers_sizes(rt: &impl Abort, alloc: Global, sizes: &Sizes) {
     let (first, cpu, device, line) = *sizes;
     let mut text = Vec::new(alloc);
     let pushed = push_script(&mut text, first, cpu, device);
-    expect(rt, "out of memory", pushed);
+    pushed.expect(rt, "out of memory");
     answers(rt, alloc, line, text.as_slice(), line);
 }
 
@@ -79,7 +79,7 @@ fn counts_of_words(rt: HostRuntime) {
 fn want_of_memory(rt: HostRuntime) {
     let text =
         b"page = 1\npresent = [0]\ncpu = [{ id = 0, words = [\"ipi 0 48\"] }]\ndevice = [{ words = [\"low 0 0\"] }]";
-    let line = expect(&rt, "out of memory", answer_line(rt.alloc(), text));
+    let line = answer_line(rt.alloc(), text).expect(&rt, "out of memory");
     is_script_or_no_memory(&rt, line.as_str());
 }
 

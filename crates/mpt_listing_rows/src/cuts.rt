@@ -1,6 +1,6 @@
 //! Listings that end anywhere, or of which one byte is another.
 
-use crate::harness::{Answer, answer_to, expect, same};
+use crate::harness::{Answer, answer_to, same};
 use crate::texts::all_texts;
 use std::alloc::Global;
 use std::process::Abort;
@@ -43,7 +43,7 @@ fn cut_at_each_byte(rt: HostRuntime) {
 
 /// A byte that stands in no listing is Form at its line, at each place.
 fn same_wrong_bytes(rt: &impl Abort, alloc: Global, text: &[u8]) {
-    let mut changed = expect(rt, "out of memory", Vec::from_slice(alloc, text));
+    let mut changed = Vec::from_slice(alloc, text).expect(rt, "out of memory");
     same_wrong_bytes_in(rt, alloc, text, changed.as_mut_slice());
 }
 

@@ -11,18 +11,6 @@ pub(crate) fn same<T: PartialEq + Debug + Drop>(rt: &impl Abort, name: &str, got
     assert_eq!(rt; got, want, "{name}");
 }
 
-/// What a call gave, or the end of the test where it failed.
-pub(crate) fn expect<T: Drop, E: Debug + Drop>(
-    rt: &impl Abort,
-    otherwise: &str,
-    answer: Result<T, E>,
-) -> T {
-    match answer {
-        Ok(value) => value,
-        Err(error) => panic!(rt; "{otherwise}: {error:?}"),
-    }
-}
-
 /// The longest text that is asked about.
 const LIMIT: usize = 4_194_304;
 
@@ -115,7 +103,7 @@ pub(crate) fn same_answers(rt: &impl Abort, alloc: Global, text: &[u8], rows: &[
 fn same_answer(rt: &impl Abort, alloc: Global, text: &[u8], row: &Row) {
     let mut changed = Vec::new(alloc);
     let pushed = push_with_line(&mut changed, text, row.number, row.line);
-    expect(rt, "out of memory", pushed);
+    pushed.expect(rt, "out of memory");
     let answer = answer_to(alloc, changed.as_slice());
     same(rt, row.name, answer, row.answer);
 }

@@ -1,6 +1,6 @@
 //! Tables at each bound of an image of 1 MiB, and parts at the bound of what 16 bits can say.
 
-use crate::harness::{Answer, Row, answer_to, expect, same, same_answers};
+use crate::harness::{Answer, Row, answer_to, same, same_answers};
 use crate::texts::{default_text, one_processor_text, usual_board_text};
 use std::alloc::{AllocError, Global};
 use std::process::Abort;
@@ -291,7 +291,7 @@ const LARGE_TABLES: &[Large] = &[
 // the answer to a large table
 fn same_large(rt: &impl Abort, alloc: Global, large: &Large) {
     let mut text = Vec::new(alloc);
-    expect(rt, "out of memory", push_large(&mut text, large));
+    push_large(&mut text, large).expect(rt, "out of memory");
     let answer = answer_to(alloc, text.as_slice());
     let row = (large.buses, large.opaque, large.last, large.bare);
     same(rt, "a large table", (row, answer), (row, large.answer));

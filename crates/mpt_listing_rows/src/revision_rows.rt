@@ -1,7 +1,7 @@
 //! Tables of either revision under a floating pointer of either, all four worked out by hand: what each lists, and
 //! what becomes of it.
 
-use crate::harness::{expect, same};
+use crate::harness::same;
 use crate::revision_images::{
     CLEAR_LINE_1, CLEAR_LINE_4, HEADER_LINE_1, HEADER_LINE_4, POINTER_1, POINTER_4, POINTER_LINE_1,
     POINTER_LINE_4, TABLE_1, TABLE_4,
@@ -80,7 +80,7 @@ fn rows() -> &'static [Row] {
 // the tables of a row's image
 fn tables_of(rt: &impl Abort, alloc: Global, row: &Row) -> Tables {
     let image = image_of(rt, alloc, row.pointer, row.table);
-    expect(rt, "refused", read(alloc, image.as_slice()))
+    read(alloc, image.as_slice()).expect(rt, "refused")
 }
 
 #[test]
@@ -95,7 +95,7 @@ fn are_read_and_listed(rt: HostRuntime) {
 fn add_image(rt: &impl Abort, alloc: Global, shelf: &mut MemShelf, row: &Row) {
     let image = image_of(rt, alloc, row.pointer, row.table);
     let added = shelf.add("image", image.as_slice());
-    expect(rt, "no memory", added);
+    added.expect(rt, "no memory");
 }
 
 // the tables of a row's image as a file
@@ -118,7 +118,7 @@ fn breaks(rt: &impl Abort, alloc: Global, name: &str, tables: &Tables, rules: &[
     if !well_formed(tables) {
         panic!(rt; "not well formed");
     }
-    let found = expect(rt, "no memory", audit(alloc, tables));
+    let found = audit(alloc, tables).expect(rt, "no memory");
     same_rules(rt, name, found.as_slice(), rules);
 }
 
@@ -152,7 +152,7 @@ fn are_audited(rt: HostRuntime) {
 fn are_made_canonical(rt: HostRuntime) {
     for row in rows() {
         let tables = tables_of(&rt, rt.alloc(), row);
-        let canonical = expect(&rt, "no memory", canon(rt.alloc(), tables));
+        let canonical = canon(rt.alloc(), tables).expect(&rt, "no memory");
         let lines = (row.lines.0, row.canonical);
         lists(&rt, rt.alloc(), row.name, &canonical, lines);
     }
@@ -190,7 +190,7 @@ fn built_of(rt: &impl Abort, alloc: Global, text: &[u8]) -> Vec<u8> {
     let Ok(tables) = parse(alloc, text) else {
         panic!(rt; "refused");
     };
-    expect(rt, "no memory", write_image(alloc, &tables))
+    write_image(alloc, &tables).expect(rt, "no memory")
 }
 
 // an image has bytes at a place

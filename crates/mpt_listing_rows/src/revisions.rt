@@ -1,6 +1,6 @@
 //! What the rows of revisions stand on: images and listings of their parts.
 
-use crate::harness::{expect, same};
+use crate::harness::same;
 use crate::revision_images::PROCESSOR_LINE;
 use mpt_base::{Shelf, put_bytes};
 use mpt_listing::print;
@@ -22,7 +22,7 @@ fn zeros(alloc: Global, len: usize) -> Result<Vec<u8>, AllocError> {
 
 /// An image of 1,360 bytes: the EBDA at 500h, the floating pointer there, the table behind it.
 pub(crate) fn image_of(rt: &impl Abort, alloc: Global, pointer: &[u8], table: &[u8]) -> Vec<u8> {
-    let mut image = expect(rt, "no memory", zeros(alloc, 1360));
+    let mut image = zeros(alloc, 1360).expect(rt, "no memory");
     let bytes = image.as_mut_slice();
     put(bytes, 0x40E, &[0x50]);
     put(bytes, 0x500, pointer);
@@ -42,7 +42,7 @@ fn push_listing(text: &mut Vec<u8>, pointer: &[u8], header: &[u8]) -> Result<(),
 pub(crate) fn listing(rt: &impl Abort, alloc: Global, lines: (&[u8], &[u8])) -> Vec<u8> {
     let mut text = Vec::new(alloc);
     let pushed = push_listing(&mut text, lines.0, lines.1);
-    expect(rt, "no memory", pushed);
+    pushed.expect(rt, "no memory");
     text
 }
 
@@ -54,7 +54,7 @@ pub(crate) fn lists(
     tables: &Tables,
     lines: (&[u8], &[u8]),
 ) {
-    let text = expect(rt, "no memory", print(alloc, tables));
+    let text = print(alloc, tables).expect(rt, "no memory");
     let want = listing(rt, alloc, lines);
     same(rt, name, text.as_slice(), want.as_slice());
 }
@@ -69,5 +69,5 @@ pub(crate) fn tables_in_file(
     let Ok(Some(size)) = shelf.size(name) else {
         panic!(rt; "no size");
     };
-    expect(rt, "refused", read_from(alloc, shelf, name, size))
+    read_from(alloc, shelf, name, size).expect(rt, "refused")
 }

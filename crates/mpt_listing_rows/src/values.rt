@@ -1,6 +1,6 @@
 //! Listings that are accepted: the tables that they say, and their text again.
 
-use crate::harness::{expect, same, tables_of};
+use crate::harness::{same, tables_of};
 use crate::texts::{all_texts, default_text, every_form_text};
 use mpt_listing::print;
 use mpt_spec::{
@@ -12,8 +12,8 @@ use std::process::Abort;
 
 // the text of the tables that a text says
 fn same_again(rt: &impl Abort, alloc: Global, text: &[u8]) {
-    let tables = expect(rt, "not accepted", tables_of(alloc, text));
-    let again = expect(rt, "out of memory", print(alloc, &tables));
+    let tables = tables_of(alloc, text).expect(rt, "not accepted");
+    let again = print(alloc, &tables).expect(rt, "out of memory");
     same(rt, "the text again", again.as_slice(), text);
 }
 
@@ -42,7 +42,7 @@ fn same_default(rt: &impl Abort, tables: &Tables) {
 #[test]
 fn default_configuration(rt: HostRuntime) {
     let tables = tables_of(rt.alloc(), default_text());
-    let tables = expect(&rt, "not accepted", tables);
+    let tables = tables.expect(&rt, "not accepted");
     same_default(&rt, &tables);
 }
 
@@ -175,6 +175,6 @@ fn same_listed(rt: &impl Abort, tables: &Tables) {
 #[test]
 fn every_form(rt: HostRuntime) {
     let tables = tables_of(rt.alloc(), every_form_text());
-    let tables = expect(&rt, "not accepted", tables);
+    let tables = tables.expect(&rt, "not accepted");
     same_listed(&rt, &tables);
 }

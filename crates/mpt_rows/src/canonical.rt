@@ -1,6 +1,6 @@
 //! The canonical form: order and reserved bits.
 
-use crate::harness::{expect, same};
+use crate::harness::same;
 use crate::tables::{default, listed, lone};
 use mpt_spec::{
     Base, Body, Bus, Ext, Hierarchy, IntEntry, IoApic, Modifier, Pointer, Table, Tables,
@@ -39,8 +39,8 @@ fn bus(id: u8) -> Base {
 // tables in which every reserved bit is set, with their entries in another order than that of types
 fn reserved(rt: &impl Abort, alloc: Global) -> Tables {
     let base = Vec::from_slice(alloc, &reserved_base());
-    let base = expect(rt, "out of memory", base);
-    let ext = expect(rt, "out of memory", reserved_ext(alloc));
+    let base = base.expect(rt, "out of memory");
+    let ext = reserved_ext(alloc).expect(rt, "out of memory");
     with_reserved(listed(0xF_0000, 0x000F_0010, base, ext))
 }
 
@@ -150,7 +150,7 @@ fn same_form(rt: &impl Abort, form: &Tables) {
 fn sorts_by_type_and_clears_what_is_reserved(rt: HostRuntime) {
     let tables = reserved(&rt, rt.alloc());
     same(&rt, "reserved bits are judged", is_canon(&tables), false);
-    let form = expect(&rt, "out of memory", canon(rt.alloc(), tables));
+    let form = canon(rt.alloc(), tables).expect(&rt, "out of memory");
     same_form(&rt, &form);
 }
 

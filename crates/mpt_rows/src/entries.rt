@@ -1,6 +1,6 @@
 //! Entries spelled out by hand from the figures of MultiProcessor Specification 1.4, chapter 4.
 
-use crate::harness::{expect, same};
+use crate::harness::same;
 use mpt_base::{Fault, Reason};
 use mpt_entries::{
     Base, Bus, Ext, Hierarchy, IntEntry, IoApic, Modifier, Processor, Space, Stop, read_base,
@@ -19,7 +19,7 @@ fn same_base(rt: &impl Abort, alloc: Global, bytes: &[u8], from: usize, to: usiz
     if from > to || to > bytes.len() {
         panic!(rt; "the range is not in the bytes");
     }
-    let entries = expect(rt, "not read", read_base(alloc, bytes, from, to));
+    let entries = read_base(alloc, bytes, from, to).expect(rt, "not read");
     same(rt, "the base entries", entries.as_slice(), want);
 }
 
@@ -193,7 +193,7 @@ fn reads_each_extended_entry_in_a_range(rt: HostRuntime) {
         0xC5, 0x05, 0x51, 0x52, 0x53, // one with three bytes
         0x00, // behind the range
     ];
-    let entries = expect(&rt, "not read", read_ext(rt.alloc(), &bytes, 1, 44));
+    let entries = read_ext(rt.alloc(), &bytes, 1, 44).expect(&rt, "not read");
     same_ext(&rt, entries.as_slice());
 }
 
@@ -212,7 +212,7 @@ fn reads_the_longest_extended_entry(rt: HostRuntime) {
     let mut bytes = [0x5A; 255];
     bytes[0] = 0xFF;
     bytes[1] = 0xFF;
-    let entries = expect(&rt, "not read", read_ext(rt.alloc(), &bytes, 0, 255));
+    let entries = read_ext(rt.alloc(), &bytes, 0, 255).expect(&rt, "not read");
     same(&rt, "how many entries", entries.len(), 1);
     same_opaque(&rt, entries.as_slice().first(), 0xFF, &[0x5A; 253]);
 }

@@ -1,6 +1,6 @@
 //! The shelf over the files of the operating system, on files that each test writes where it runs.
 
-use crate::harness::{expect, same, same_size};
+use crate::harness::{same, same_size};
 use mpt_base::{Failed, FileShelf, Shelf};
 use std::fs;
 use std::process::Abort;
@@ -21,13 +21,13 @@ fn same_read(
 
 // writes a file
 fn write<R: Files + Abort>(rt: &R, name: &str, bytes: &[u8]) {
-    expect(rt, "the file is not written", fs::write(rt, name, bytes));
+    fs::write(rt, name, bytes).expect(rt, "the file is not written");
 }
 
 // puts another file in the place of one
 fn replace<R: Files + Abort>(rt: &R, name: &str) {
     write(rt, "other", b"new");
-    expect(rt, "it gets no name", fs::rename(rt, "other", name));
+    fs::rename(rt, "other", name).expect(rt, "it gets no name");
 }
 
 // the sizes of two files, of one that is absent, and of names that are no files

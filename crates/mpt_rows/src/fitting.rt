@@ -1,6 +1,6 @@
 //! What is well formed, and what has a place in an image of 1 MiB, at each bound on both sides.
 
-use crate::harness::{expect, same};
+use crate::harness::same;
 use crate::tables::{default, listed, one_processor, usual};
 use mpt_spec::{Base, Body, Bus, Ext, Opaque, Pointer, Sequence, Tables};
 use mpt_write::{block_bytes, fits, well_formed};
@@ -155,7 +155,7 @@ fn buses(rt: &impl Abort, alloc: Global, count: usize) -> Vec<Base> {
         id: 0,
         name: *b"ISA   ",
     });
-    expect(rt, "out of memory", Vec::from_elem(alloc, bus, count))
+    Vec::from_elem(alloc, bus, count).expect(rt, "out of memory")
 }
 
 // an opaque entry of this type with a rest of that many zeros
@@ -210,7 +210,7 @@ fn a_base_table_has_at_most_65535_bytes(rt: HostRuntime) {
 fn opaques_fit(rt: &impl Abort, alloc: Global, count: usize, last: usize) -> bool {
     let mut ext = Vec::new(alloc);
     let pushed = push_opaques(&mut ext, alloc, count, last);
-    expect(rt, "out of memory", pushed);
+    pushed.expect(rt, "out of memory");
     let tables = listed(0x500, 0x510, Vec::new(alloc), ext);
     fits(&tables)
 }
@@ -237,7 +237,7 @@ fn an_extended_part_has_at_most_65535_bytes(rt: HostRuntime) {
 fn is_lawful(rt: &impl Abort, alloc: Global, kind: u8, length: usize) -> bool {
     let mut ext = Vec::new(alloc);
     let pushed = push_opaque(&mut ext, alloc, kind, length);
-    expect(rt, "out of memory", pushed);
+    pushed.expect(rt, "out of memory");
     let tables = listed(0x500, 0x510, Vec::new(alloc), ext);
     well_formed(&tables)
 }

@@ -10,18 +10,6 @@ pub(crate) fn same<T: PartialEq + Debug + Drop>(rt: &impl Abort, name: &str, got
     assert_eq!(rt; got, want, "{name}");
 }
 
-/// What a call gave, or the end of the test where it failed.
-pub(crate) fn expect<T: Drop, E: Debug + Drop>(
-    rt: &impl Abort,
-    otherwise: &str,
-    answer: Result<T, E>,
-) -> T {
-    match answer {
-        Ok(value) => value,
-        Err(error) => panic!(rt; "{otherwise}: {error:?}"),
-    }
-}
-
 /// Compares the size that a shelf tells of a file.
 pub(crate) fn same_size(
     rt: &impl Abort,

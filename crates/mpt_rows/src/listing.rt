@@ -1,6 +1,6 @@
 //! Listings whose text was written by hand from the format.
 
-use crate::harness::{expect, same};
+use crate::harness::same;
 use crate::tables;
 use crate::tables::{default, listed};
 use mpt_listing::{Part, print, push_line};
@@ -13,7 +13,7 @@ use std::process::Abort;
 
 // the listing of tables
 fn same_listing(rt: &impl Abort, alloc: Global, tables: &Tables, want: &[u8]) {
-    let text = expect(rt, "out of memory", print(alloc, tables));
+    let text = print(alloc, tables).expect(rt, "out of memory");
     same(rt, "the listing", text.as_slice(), want);
 }
 
@@ -78,7 +78,7 @@ fn each_base() -> [Base; 6] {
 }
 
 fn base_entries(rt: &impl Abort, alloc: Global) -> Vec<Base> {
-    expect(rt, "out of memory", Vec::from_slice(alloc, &each_base()))
+    Vec::from_slice(alloc, &each_base()).expect(rt, "out of memory")
 }
 
 // an entry of another type with this rest
@@ -126,7 +126,7 @@ fn push_ext_entries(out: &mut Vec<Ext>, alloc: Global) -> Result<(), AllocError>
 fn ext_entries(rt: &impl Abort, alloc: Global) -> Vec<Ext> {
     let mut out = Vec::new(alloc);
     let pushed = push_ext_entries(&mut out, alloc);
-    expect(rt, "out of memory", pushed);
+    pushed.expect(rt, "out of memory");
     out
 }
 
@@ -199,7 +199,7 @@ fn push_lines(out: &mut Vec<u8>) -> Result<(), AllocError> {
 #[test]
 fn line_of_parts(rt: HostRuntime) {
     let mut out = Vec::new(rt.alloc());
-    expect(&rt, "out of memory", push_lines(&mut out));
+    push_lines(&mut out).expect(&rt, "out of memory");
     let want = b"fault 16 at 000F0050\n0 18446744073709551615\n";
     same(&rt, "the lines", out.as_slice(), want.as_slice());
 }

@@ -3,7 +3,7 @@
 
 ghost use Rattle.std.specs.Prelude.{◌≤◌, length, IfOk};
 
-use crate::harness::{expect, same, same_size};
+use crate::harness::{same, same_size};
 use mpt_base::{Failed, MemShelf, MemSink, OutSink, Shelf, Sink};
 use std::alloc::Global;
 use std::cell::Cell;
@@ -74,7 +74,7 @@ fn five_bytes_are_taken(rt: &impl Abort, sink: &mut MemSink) {
 
 #[test]
 fn sink_ends_at_its_room(rt: HostRuntime) {
-    let mut sink = expect(&rt, "no sink", MemSink::new(rt.alloc(), 5));
+    let mut sink = MemSink::new(rt.alloc(), 5).expect(&rt, "no sink");
     five_bytes_are_taken(&rt, &mut sink);
 }
 

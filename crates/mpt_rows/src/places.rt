@@ -1,6 +1,6 @@
 //! Worked cases: places of the search (MultiProcessor Specification 1.4, section 4.1).
 
-use crate::harness::{expect, put, same};
+use crate::harness::{put, same};
 use crate::pointer::zeros;
 use crate::search_places;
 use std::alloc::Global;
@@ -17,7 +17,7 @@ fn lists_the_places_of_a_short_image(rt: HostRuntime) {
 }
 
 fn places_of(rt: &impl Abort, alloc: Global, image: &[u8]) -> Vec<u64> {
-    expect(rt, "out of memory", search_places(alloc, image))
+    search_places(alloc, image).expect(rt, "out of memory")
 }
 
 #[test]

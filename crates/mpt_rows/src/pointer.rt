@@ -1,7 +1,7 @@
 //! A floating pointer spelled out by hand from MultiProcessor Specification 1.4, figure 4-2, and the
 //! search for it.
 
-use crate::harness::{expect, put, same};
+use crate::harness::{put, same};
 use mpt_pointer::{Area, Pointer, areas, find, read_pointer};
 use std::alloc::Global;
 use std::process::Abort;
@@ -13,7 +13,7 @@ const BYTES: [u8; 16] = [
 
 /// An image of zeros.
 pub(crate) fn zeros(rt: &impl Abort, alloc: Global, len: usize) -> Vec<u8> {
-    expect(rt, "out of memory", Vec::from_elem(alloc, 0, len))
+    Vec::from_elem(alloc, 0, len).expect(rt, "out of memory")
 }
 
 #[test]

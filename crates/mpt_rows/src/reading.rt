@@ -1,7 +1,7 @@
 //! A small image spelled out by hand from MultiProcessor Specification 1.4, figures 4-2 to 4-4: what it
 //! describes, and the faults of a few bytes.
 
-use crate::harness::{expect, put, same};
+use crate::harness::{put, same};
 use crate::pointer::zeros;
 use crate::tables::{ONE_PROCESSOR, lone};
 use mpt_base::{Fault, Reason};
@@ -68,7 +68,7 @@ fn same_tables(rt: &impl Abort, tables: &Tables) {
 #[test]
 fn describes_a_table_of_one_processor(rt: HostRuntime) {
     let image = small_image(&rt, rt.alloc(), &ONE_PROCESSOR);
-    let tables = expect(&rt, "refused", read(rt.alloc(), image.as_slice()));
+    let tables = read(rt.alloc(), image.as_slice()).expect(&rt, "refused");
     same_tables(&rt, &tables);
 }
 

@@ -1,7 +1,7 @@
 //! Numbers, floating pointers and entries by their bytes, spelled out by hand from MultiProcessor
 //! Specification 1.4, figures 4-2 and 4-4 to 4-11.
 
-use crate::harness::{expect, same};
+use crate::harness::same;
 use crate::tables::lone;
 use mpt_base::{NoMemory, append, checksum8, put_bytes, put_u16, put_u32, put_u64, seal8};
 use mpt_entries::{write_base, write_ext};
@@ -90,7 +90,7 @@ fn joined(alloc: Global, pieces: &[&[u8]]) -> Result<Vec<u8>, NoMemory> {
 
 // bytes that are these pieces
 fn same_pieces(rt: &impl Abort, alloc: Global, bytes: &[u8], pieces: &[&[u8]]) {
-    let want = expect(rt, "no memory for the pieces", joined(alloc, pieces));
+    let want = joined(alloc, pieces).expect(rt, "no memory for the pieces");
     same(rt, "the bytes", bytes, want.as_slice());
 }
 
@@ -144,7 +144,7 @@ fn base_pieces() -> [&'static [u8]; 5] {
 #[test]
 fn writes_base_entries_behind_one_another(rt: HostRuntime) {
     let mut out = Vec::new(rt.alloc());
-    expect(&rt, "no entries", push_base(&mut out, &base_entries()));
+    push_base(&mut out, &base_entries()).expect(&rt, "no entries");
     same_pieces(&rt, rt.alloc(), out.as_slice(), &base_pieces());
 }
 
@@ -206,6 +206,6 @@ fn ext_pieces() -> [&'static [u8]; 4] {
 #[test]
 fn writes_extended_entries_behind_one_another(rt: HostRuntime) {
     let mut out = Vec::new(rt.alloc());
-    expect(&rt, "no entries", push_ext(&mut out, rt.alloc()));
+    push_ext(&mut out, rt.alloc()).expect(&rt, "no entries");
     same_pieces(&rt, rt.alloc(), out.as_slice(), &ext_pieces());
 }

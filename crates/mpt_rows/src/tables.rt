@@ -1,6 +1,5 @@
 //! Tables that several rows use: one of one processor, and those of a usual board.
 
-use crate::harness::expect;
 use mpt_spec::{
     Base, Body, Bus, Ext, IntEntry, IoApic, Pointer, Processor, Sequence, Table, Tables,
 };
@@ -30,7 +29,7 @@ pub(crate) fn lone(flags: u8, reserved: u8) -> Processor {
 /// The base entries of that table.
 pub(crate) fn one_processor(rt: &impl Abort, alloc: Global) -> Vec<Base> {
     let entries = [Base::Processor(lone(3, 0))];
-    expect(rt, "out of memory", Vec::from_slice(alloc, &entries))
+    Vec::from_slice(alloc, &entries).expect(rt, "out of memory")
 }
 
 /// Tables with a floating pointer at a place that names a table at an address.
@@ -136,5 +135,5 @@ fn usual_entries() -> [Base; 24] {
 /// The base entries of a board of two processors, two buses and one I/O APIC.
 pub(crate) fn usual(rt: &impl Abort, alloc: Global) -> Vec<Base> {
     let entries = usual_entries();
-    expect(rt, "out of memory", Vec::from_slice(alloc, &entries))
+    Vec::from_slice(alloc, &entries).expect(rt, "out of memory")
 }

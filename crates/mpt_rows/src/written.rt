@@ -1,6 +1,6 @@
 //! Blocks and images that are written, and read again.
 
-use crate::harness::{expect, put, same};
+use crate::harness::{put, same};
 use crate::tables::{ONE_PROCESSOR, default, listed, one_processor, usual};
 use mpt_base::sum8;
 use mpt_spec::{Ext, Opaque, Sequence, Tables};
@@ -14,7 +14,7 @@ fn block_of(rt: &impl Abort, alloc: Global, tables: &Tables) -> Vec<u8> {
     if !well_formed(tables) {
         panic!(rt; "not well formed");
     }
-    expect(rt, "no block", write_block(alloc, tables))
+    write_block(alloc, tables).expect(rt, "no block")
 }
 
 // the image of tables that fit, and none of others
@@ -22,7 +22,7 @@ fn image_of(rt: &impl Abort, alloc: Global, tables: &Tables) -> Vec<u8> {
     if !fits(tables) {
         panic!(rt; "no place in an image");
     }
-    expect(rt, "no image", write_image(alloc, tables))
+    write_image(alloc, tables).expect(rt, "no image")
 }
 
 // how many of the bytes are not 0
@@ -65,7 +65,7 @@ fn same_block(rt: &impl Abort, alloc: Global, tables: &Tables, want: &[u8]) {
 // byte
 fn opaque_tables(rt: &impl Abort, alloc: Global) -> Tables {
     let base = one_processor(rt, alloc);
-    let ext = expect(rt, "out of memory", opaque_entry(alloc));
+    let ext = opaque_entry(alloc).expect(rt, "out of memory");
     listed(0xF_0000, 0x000F_0010, base, ext)
 }
 
@@ -143,7 +143,7 @@ fn writes_an_image_that_is_read_back(rt: HostRuntime) {
 
 // the tables that an image has, which have this block
 fn is_read_back(rt: &impl Abort, alloc: Global, image: &[u8], tables: &Tables, block: &[u8]) {
-    let again = expect(rt, "no tables in the image", read(alloc, image));
+    let again = read(alloc, image).expect(rt, "no tables in the image");
     same_tables(rt, &again, tables);
     same_block(rt, alloc, &again, block);
 }
