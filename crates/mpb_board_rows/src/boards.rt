@@ -219,20 +219,13 @@ pub fn one_asleep(alloc: Global) -> Result<Option<Config>, AllocError>
         Op::Check(1),
     ];
     let cpus = pair(alloc, 0, &program, 1, 0x10)?;
-    with_one_io(alloc, 17, cpus, four_pulses(alloc)?)
-}
-
-/// A device that pulses pins 0 to 3.
-fn four_pulses(alloc: Global) -> Result<Vec<Vec<DevWord>>, AllocError>
-    ensures { IfOk result (λ devices. sum_by (λ words. length words + 2) (map (λ words. words.items) devices.items) ≤ 102) }
-{
     let words = [
         DevWord::Pulse(0, 0),
         DevWord::Pulse(0, 1),
         DevWord::Pulse(0, 2),
         DevWord::Pulse(0, 3),
     ];
-    one_device(alloc, &words)
+    with_one_io(alloc, 17, cpus, one_device(alloc, &words)?)
 }
 
 /// One processor, which unmasks pin 1 of one I/O APIC as an edge pin, and a device that pulses it twice and pin 2
