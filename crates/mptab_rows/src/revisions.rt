@@ -159,7 +159,8 @@ fn old_board() -> &'static [u8] {
 /// The listing of revision 1 with an extended entry.
 fn listing_with_an_extended_entry(alloc: Global) -> Result<Vec<u8>, Fail> {
     let mut text = Vec::from_slice(alloc, old_board())?;
-    text.truncate(old_board().len() - 4);
+    let before_end = text.len().saturating_sub(4);
+    text.truncate(before_end);
     text.extend_from_slice(b"opaque kind C8 rest -\nend\n")?;
     Ok(text)
 }
