@@ -14,8 +14,9 @@ use std::sync::atomic::{AtomicU64, Ordering};
 use std::test::Fail;
 use std::thread::Threads;
 
-/// How often a gate looks before it goes on and marks the test as failed.
-const LOOKS: u64 = 50_000_000;
+/// How often a gate looks before it goes on and marks the test as failed: some seconds, so that a thread that gets
+/// no processor for a while is waited for.
+const LOOKS: u64 = 5_000_000_000;
 
 /// Whether the count came to its goal, before so many looks.
 fn comes_to(count: &AtomicU64, goal: u64) -> bool {
@@ -70,8 +71,8 @@ impl Gate for TwoGate {
     }
 }
 
-/// A device that waits at its first pass until processor 0 has passed five times and then each of the two other
-/// devices twice.
+/// Devices that wait at their first pass until processor 0 has passed five times, behind its boot program; one of
+/// them is held there until each of the two others has passed twice, the second time behind its Begin.
 #[derive(Drop)]
 struct LateGate {
     /// The device that is held.
@@ -80,9 +81,9 @@ struct LateGate {
     own: AtomicU64,
     /// How often processor 0 passed.
     cpu: AtomicU64,
-    /// How often each device passed since processor 0 had passed five times.
+    /// How often each other device passed.
     others: [AtomicU64; 3],
-    /// How often the device looked in vain.
+    /// How often one of them looked in vain.
     missed: AtomicU64,
 }
 
@@ -114,11 +115,17 @@ impl LateGate {
         }
     }
 
+    /// A device waits until processor 0 has passed five times.
+    fn await_boot(&self) {
+        if !comes_to(&self.cpu, 5) {
+            one_more(&self.missed);
+        }
+    }
+
     /// Another device passes.
     fn pass_other(&self, device: u8) {
-        if self.cpu.load(Ordering::SeqCst) >= 5
-            && let Some(count) = self.others.get(usize::from(device))
-        {
+        self.await_boot();
+        if let Some(count) = self.others.get(usize::from(device)) {
             one_more(count);
         }
     }
