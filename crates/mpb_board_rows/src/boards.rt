@@ -1,119 +1,12 @@
 //! The boards of the rows.
 
-ghost use Rattle.std.specs.Prelude.{◌<◌, ◌≤◌, ◌+◌, ◌^◌, IfOk, IfSome, length, map, sum_by};
+ghost use Rattle.std.specs.Prelude.{◌<◌, ◌≤◌, ◌^◌, IfOk, IfSome, length, sum_by};
 ghost use Rattle.mpb_spec.specs.Plan.{plan_size};
 
 use mpb_board::{Config, CpuConfig, DevWord, Op};
+use mpb_cases::{one_device, one_processor, pair, processor, with_one_io};
 use mpb_config::config_of;
 use std::alloc::{AllocError, Global};
-
-/// A processor.
-fn processor(alloc: Global, id: u8, version: u8, program: &[Op]) -> Result<CpuConfig, AllocError>
-    requires { length program.now ≤ 100 }
-    ensures { IfOk result (λ p. length p.program ≤ 100) }
-{
-    Ok(CpuConfig {
-        id,
-        version,
-        program: program.to_vec(alloc)?,
-    })
-}
-
-/// Processor 0, of version 10h, with this program.
-fn one_processor(alloc: Global, program: &[Op]) -> Result<Vec<CpuConfig>, AllocError>
-    requires { length program.now ≤ 100 }
-    ensures { IfOk result (λ cpus. sum_by (λ p. length p.program) cpus.items ≤ 100) }
-{
-    let cpu = processor(alloc, 0, 0x10, program)?;
-    Ok(vec![in alloc; cpu]?)
-}
-
-/// A processor of version 10h with this program, and one of another version, which has none.
-fn pair(
-    alloc: Global,
-    boot: u8,
-    program: &[Op],
-    other: u8,
-    version: u8,
-) -> Result<Vec<CpuConfig>, AllocError>
-    requires { length program.now ≤ 100 }
-    ensures { IfOk result (λ cpus. sum_by (λ p. length p.program) cpus.items ≤ 200) }
-{
-    let first = processor(alloc, boot, 0x10, program)?;
-    let second = processor(alloc, other, version, &[])?;
-    Ok(vec![in alloc; first, second]?)
-}
-
-/// One device of these words.
-fn one_device(alloc: Global, words: &[DevWord]) -> Result<Vec<Vec<DevWord>>, AllocError>
-    requires { length words.now ≤ 100 }
-    ensures { IfOk result (λ devices. sum_by (λ words. length words + 2) (map (λ words. words.items) devices.items) ≤ 102) }
-{
-    let device = words.to_vec(alloc)?;
-    Ok(vec![in alloc; device]?)
-}
-
-/// Three devices, each of which pulses pin 1 of the first I/O APIC.
-fn three_devices(alloc: Global) -> Result<Vec<Vec<DevWord>>, AllocError>
-    ensures { IfOk result (λ devices. sum_by (λ words. length words + 2) (map (λ words. words.items) devices.items) ≤ 9) }
-{
-    let words = [DevWord::Pulse(0, 1)];
-    let first = words.to_vec(alloc)?;
-    let second = words.to_vec(alloc)?;
-    let third = words.to_vec(alloc)?;
-    Ok(vec![in alloc; first, second, third]?)
-}
-
-/// Processors of which the first, 0, boots by so many ops, and devices on one I/O APIC of id 1.
-fn with_one_io(
-    alloc: Global,
-    boot_len: u32,
-    cpus: Vec<CpuConfig>,
-    devices: Vec<Vec<DevWord>>,
-) -> Result<Option<Config>, AllocError>
-    requires cpus { sum_by (λ p. length p.program) cpus.items ≤ 200 }
-    requires devices { sum_by (λ words. length words + 2) (map (λ words. words.items) devices.items) ≤ 102 }
-    ensures { IfOk result (λ made. IfSome made (λ c. plan_size c < 2 ^ 32)) }
-{
-    let ios = [1].to_vec(alloc)?;
-    Ok(config_of(0x9F, 0, boot_len, cpus, ios, false, devices))
-}
-
-/// Two processors of version 10h, ids 0 (boot) and 1, and nothing else. The boot program starts
-/// processor 1 at page 9Fh.
-pub fn two_processors(alloc: Global) -> Result<Option<Config>, AllocError>
-    ensures { IfOk result (λ made. IfSome made (λ c. plan_size c < 2 ^ 32)) }
-{
-    let program = [
-        Op::Init(1),
-        Op::Pause(10_000),
-        Op::Startup(1, 0x9F),
-        Op::Pause(200),
-        Op::Startup(1, 0x9F),
-        Op::Pause(200),
-        Op::Check(1),
-    ];
-    let cpus = pair(alloc, 0, &program, 1, 0x10)?;
-    Ok(config_of(0x9F, 0, 7, cpus, Vec::new(alloc), false, Vec::new(alloc)))
-}
-
-/// One processor of version 10h and one I/O APIC of id 1, whose pin 1 the boot program unmasks with
-/// vector 21h as an edge pin; then the processor takes an interrupt and ends it. Three devices pulse the pin
-/// once each.
-pub fn three_pulses(alloc: Global) -> Result<Option<Config>, AllocError>
-    ensures { IfOk result (λ made. IfSome made (λ c. plan_size c < 2 ^ 32)) }
-{
-    let program = [
-        Op::IoSel(0, 0x13),
-        Op::IoWin(0, 0),
-        Op::IoSel(0, 0x12),
-        Op::IoWin(0, 0x21),
-        Op::Take,
-        Op::Eoi,
-    ];
-    let cpus = one_processor(alloc, &program)?;
-    with_one_io(alloc, 4, cpus, three_devices(alloc)?)
-}
 
 /// One processor of version 10h and one I/O APIC of id 1, whose pin 16 the boot program unmasks with
 /// vector 30h as a level pin; then the processor takes an interrupt and ends it. One device asserts the
@@ -132,28 +25,6 @@ pub fn one_level(alloc: Global) -> Result<Option<Config>, AllocError>
     let cpus = one_processor(alloc, &program)?;
     let device = one_device(alloc, &[DevWord::High(0, 16)])?;
     with_one_io(alloc, 4, cpus, device)
-}
-
-/// Processors 0 (boot, version 10h) and 1 (version 01h). The boot program starts processor 1 by the
-/// warm-reset vector and looks for processor 2, which isn't there.
-pub fn old_processor(alloc: Global) -> Result<Option<Config>, AllocError>
-    ensures { IfOk result (λ made. IfSome made (λ c. plan_size c < 2 ^ 32)) }
-{
-    let program = [
-        Op::Warm(0x9F),
-        Op::Init(1),
-        Op::Pause(10_000),
-        Op::Check(1),
-        Op::Init(2),
-        Op::Pause(10_000),
-        Op::Startup(2, 0x9F),
-        Op::Pause(200),
-        Op::Startup(2, 0x9F),
-        Op::Pause(200),
-        Op::Check(2),
-    ];
-    let cpus = pair(alloc, 0, &program, 1, 1)?;
-    Ok(config_of(0x9F, 0, 11, cpus, Vec::new(alloc), true, Vec::new(alloc)))
 }
 
 /// Processors 0, with this program, and 1, of version 10h, and 2, of version 0Fh.
@@ -218,7 +89,7 @@ pub fn one_asleep(alloc: Global) -> Result<Option<Config>, AllocError>
         Op::IoWin(0, 0x0700),
         Op::Check(1),
     ];
-    let cpus = pair(alloc, 0, &program, 1, 0x10)?;
+    let cpus = pair(alloc, 0, &program, processor(alloc, 1, 0x10, &[])?)?;
     let words = [
         DevWord::Pulse(0, 0),
         DevWord::Pulse(0, 1),
@@ -258,7 +129,7 @@ pub fn second_io_apic(alloc: Global) -> Result<Option<Config>, AllocError>
         Op::Tpr(0x2C),
         Op::Take,
     ];
-    let cpus = pair(alloc, 2, &program, 5, 0x10)?;
+    let cpus = pair(alloc, 2, &program, processor(alloc, 5, 0x10, &[])?)?;
     let device = one_device(alloc, &[DevWord::High(1, 16)])?;
     let ios = [6, 7].to_vec(alloc)?;
     Ok(config_of(0x9F, 2, 4, cpus, ios, true, device))

@@ -1,12 +1,13 @@
 //! Worked boards through their whole journals, entry by entry.
 
-use crate::boards::{old_processor, one_level, three_pulses, two_processors};
+use crate::boards::one_level;
 use crate::harness::{
     all_go_on, has_clear_pins, has_clear_vector, has_entries, has_imcr, has_life, has_processors,
     has_room, is_quiet, is_without, makes_all, may_step, opened,
 };
 use crate::rows::Line;
 use mpb_board::{Agent, Board, Imcr, Life, Op, What};
+use mpb_cases::{one_absent, three_pulses, two_processors};
 use std::process::Abort;
 
 const BOOT: Agent = Agent::Cpu(0);
@@ -39,7 +40,7 @@ fn two_run_alone(rt: &impl Abort, board: &Board) {
 
 #[test]
 fn two_processors_start(rt: HostRuntime) {
-    let mut board = opened(&rt, rt.alloc(), two_processors(rt.alloc()));
+    let mut board = opened(&rt, rt.alloc(), two_processors(rt.alloc(), &[]));
     has_room(&rt, &board, 7);
     all_go_on(&rt, &mut board, BOOT, two_processors_lines());
     is_done(&rt, &board, 7);
@@ -110,7 +111,7 @@ fn level_pin_is_sent_again(rt: HostRuntime) {
 }
 
 // the entries of a start by the warm-reset vector, and of one that isn't there
-fn old_processor_lines() -> &'static [Line] {
+fn one_absent_lines() -> &'static [Line] {
     &[
         (BOOT, Op::Warm(0x9F), 0, What::Done),
         (BOOT, Op::Init(1), 1, What::Started(0x9F)),
@@ -128,8 +129,8 @@ fn old_processor_lines() -> &'static [Line] {
 
 #[test]
 fn old_processor_starts_by_warm_reset(rt: HostRuntime) {
-    let mut board = opened(&rt, rt.alloc(), old_processor(rt.alloc()));
-    makes_all(&rt, &mut board, old_processor_lines());
+    let mut board = opened(&rt, rt.alloc(), one_absent(rt.alloc(), true));
+    makes_all(&rt, &mut board, one_absent_lines());
     is_quiet(&rt, &board, true);
     has_imcr(&rt, &board, Imcr::Pic);
 }

@@ -1,11 +1,11 @@
 //! Offers with which an agent may not step.
 
-use crate::boards::three_pulses;
 use crate::harness::{
     makes, makes_all, may_step, opened, refuses, refuses_all, refuses_collections,
 };
 use crate::rows::{Line, row_of};
 use mpb_board::{Agent, Board, Offer, Op, What};
+use mpb_cases::three_pulses;
 use std::process::Abort;
 
 const BOOT: Agent = Agent::Cpu(0);

@@ -1,9 +1,10 @@
 //! Whole reports.
 
-use crate::boards::{second_io_apic, three_pulses, two_processors};
+use crate::boards::second_io_apic;
 use crate::harness::{is_quiet, opened};
 use crate::stepped::{account_of, has_report, silent_account, steps};
 use mpb_board::{Agent, Offer};
+use mpb_cases::{three_pulses, two_processors};
 use mpb_spec::{Account, Hit};
 use std::alloc::{AllocError, Global};
 
@@ -27,7 +28,7 @@ end
 #[test]
 fn two_processors_start(rt: HostRuntime) {
     let alloc = rt.alloc();
-    let mut board = opened(&rt, alloc, two_processors(alloc));
+    let mut board = opened(&rt, alloc, two_processors(alloc, &[]));
     steps(&rt, &mut board, &[BOOT; 7]);
     is_quiet(&rt, &board, true);
     has_report(&rt, alloc, &board, account_of(alloc, &[]), TWO_PROCESSORS);

@@ -3,11 +3,12 @@
 ghost use Rattle.std.specs.Prelude.{◌<◌, ◌^◌, IfSome};
 ghost use Rattle.mpb_spec.specs.Plan.{plan_size};
 
-use crate::boards::{crowd, two_processors};
+use crate::boards::crowd;
 use crate::crew::work_all;
 use crate::harness::{is_at, opened, same};
 use crate::walk::walks;
 use mpb_board::{Board, Config, Op};
+use mpb_cases::two_processors;
 use std::alloc::Global;
 use std::process::Abort;
 use std::sync::Wait;

@@ -3,10 +3,10 @@
 ghost use Rattle.std.specs.Prelude.{◌≡◌, ◌∷◌, ◌++◌, [], All, IfSome};
 ghost use Rattle.mpb_spec.specs.Agents.{IsPrefix, entries_of};
 
-use crate::boards::two_processors;
 use crate::harness::opened;
 use mpb_board::{Entry, Offer, Op};
 use mpb_bus::{Bus, BusSeat, Turn};
+use mpb_cases::two_processors;
 use std::process::Abort;
 use std::sync::Wait;
 use std::test::Fail;

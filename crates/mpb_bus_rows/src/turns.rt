@@ -2,10 +2,10 @@
 
 ghost use Rattle.mpb_bus.specs.Seats.{AreSeatsOf};
 
-use crate::boards::{three_pulses, two_processors};
 use crate::harness::{goes_on, is_at, is_idle, is_quiet, makes, opened, same};
 use mpb_board::{Agent, Op};
 use mpb_bus::{Bus, BusSeat};
+use mpb_cases::{three_pulses, two_processors};
 use std::process::Abort;
 use std::sync::Wait;
 use std::test::Fail;

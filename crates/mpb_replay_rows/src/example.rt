@@ -1,10 +1,11 @@
 //! Boards, and the report of one of their runs.
 
-ghost use Rattle.std.specs.Prelude.{◌≡◌, ◌≤◌, ◌<◌, ◌+◌, ◌^◌, IfOk, IfSome, length, map, sum_by};
+ghost use Rattle.std.specs.Prelude.{◌≡◌, ◌≤◌, ◌<◌, ◌^◌, IfOk, IfSome, length};
 ghost use Rattle.mpb_spec.specs.Plan.{plan_size};
 
 use arrayvec::ArrayVec;
-use mpb_board::{Agent, Config, CpuConfig, DevWord, Entry, Imcr, Life, Op, Outcome, What};
+use mpb_board::{Agent, Config, Entry, Imcr, Life, Op, Outcome, What};
+use mpb_cases::{pair, processor};
 use mpb_config::config_of;
 use mpb_replay::{CpuLine, IoLine, Report};
 use mpb_spec::{Hit, Pulse};
@@ -14,74 +15,13 @@ use std::alloc::{AllocError, Global};
 /// The agent, the op and what came of it, without a target.
 pub(crate) type Line = (Agent, Op, What);
 
-/// A processor of version 10h.
-fn processor(alloc: Global, id: u8, program: &[Op]) -> Result<CpuConfig, AllocError>
-    requires { length program.now ≤ 100 }
-    ensures { IfOk result (λ p. length p.program ≤ 100) }
-{
-    Ok(CpuConfig {
-        id,
-        version: 0x10,
-        program: program.to_vec(alloc)?,
-    })
-}
-
-/// Processor 0 with this program.
-fn one_processor(alloc: Global, program: &[Op]) -> Result<Vec<CpuConfig>, AllocError>
-    requires { length program.now ≤ 100 }
-    ensures { IfOk result (λ cpus. sum_by (λ p. length p.program) cpus.items ≤ 100) }
-{
-    let cpu = processor(alloc, 0, program)?;
-    Ok(vec![in alloc; cpu]?)
-}
-
-/// Processors 0 and 1 with these programs.
-fn pair(alloc: Global, first: &[Op], second: &[Op]) -> Result<Vec<CpuConfig>, AllocError>
-    requires { (length first.now ≤ 100) × (length second.now ≤ 100) }
-    ensures { IfOk result (λ cpus. sum_by (λ p. length p.program) cpus.items ≤ 200) }
-{
-    let first = processor(alloc, 0, first)?;
-    let second = processor(alloc, 1, second)?;
-    Ok(vec![in alloc; first, second]?)
-}
-
-/// Three devices, each of which pulses pin 1 of the first I/O APIC.
-fn three_devices(alloc: Global) -> Result<Vec<Vec<DevWord>>, AllocError>
-    ensures { IfOk result (λ devices. sum_by (λ words. length words + 2) (map (λ words. words.items) devices.items) ≤ 9) }
-{
-    let words = [DevWord::Pulse(0, 1)];
-    let first = words.to_vec(alloc)?;
-    let second = words.to_vec(alloc)?;
-    let third = words.to_vec(alloc)?;
-    Ok(vec![in alloc; first, second, third]?)
-}
-
-/// One processor and one I/O APIC of id 1, whose pin 1 the boot program unmasks with vector 21h as an edge
-/// pin; then the processor takes an interrupt and ends it. Three devices pulse the pin once each.
-pub(crate) fn three_pulses(alloc: Global) -> Result<Option<Config>, AllocError>
-    ensures { IfOk result (λ made. IfSome made (λ c. plan_size c < 2 ^ 32)) }
-{
-    let program = [
-        Op::IoSel(0, 0x13),
-        Op::IoWin(0, 0),
-        Op::IoSel(0, 0x12),
-        Op::IoWin(0, 0x21),
-        Op::Take,
-        Op::Eoi,
-    ];
-    let cpus = one_processor(alloc, &program)?;
-    let devices = three_devices(alloc)?;
-    let ios = [1].to_vec(alloc)?;
-    Ok(config_of(0x9F, 0, 4, cpus, ios, false, devices))
-}
-
 /// Two processors, of which the second waits for its start, and one I/O APIC. There are no devices, so the
 /// I/O APIC can sweep at once.
-pub(crate) fn two_processors(alloc: Global) -> Result<Option<Config>, AllocError>
+pub(crate) fn one_waits(alloc: Global) -> Result<Option<Config>, AllocError>
     ensures { IfOk result (λ made. IfSome made (λ c. plan_size c < 2 ^ 32)) }
 {
     let boot = [Op::Init(1), Op::Startup(1, 0x9F), Op::Check(1)];
-    let cpus = pair(alloc, &boot, &[Op::Poll])?;
+    let cpus = pair(alloc, 0, &boot, processor(alloc, 1, 0x10, &[Op::Poll])?)?;
     let ios = [2].to_vec(alloc)?;
     Ok(config_of(0x9F, 0, 3, cpus, ios, false, Vec::new(alloc)))
 }

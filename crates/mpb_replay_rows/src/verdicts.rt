@@ -3,9 +3,10 @@
 ghost use Rattle.std.specs.Prelude.{◌<◌, ◌^◌, length};
 ghost use Rattle.mpb_spec.specs.Plan.{plan_size};
 
-use crate::example::{Line, report_of, run_lines, three_pulses, two_processors};
+use crate::example::{Line, one_waits, report_of, run_lines};
 use crate::reading::same;
 use mpb_board::{Agent, Config, Op, What};
+use mpb_cases::three_pulses;
 use mpb_replay::{BadWhy, Report, Verdict, replay};
 use mpb_spec::Hit;
 use std::alloc::Global;
@@ -636,7 +637,7 @@ fn waits(rt: &impl Abort, alloc: Global, name: &'static str, lines: &[Line], ent
         remotes: STILL,
         want,
     };
-    match two_processors(alloc) {
+    match one_waits(alloc) {
         Ok(Some(config)) => judged(rt, alloc, config, lines, &row),
         Ok(None) => panic!(rt; "no config"),
         Err(_) => panic!(rt; "out of memory"),

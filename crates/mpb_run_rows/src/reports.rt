@@ -4,9 +4,9 @@
 ghost use Rattle.std.specs.Prelude.{◌<◌, ◌^◌, IfSome};
 ghost use Rattle.mpb_spec.specs.Plan.{plan_size};
 
-use crate::boards::{one_absent, two_processors};
 use crate::harness::{ran, same};
 use mpb_board::Config;
+use mpb_cases::{one_absent, two_processors};
 use mpb_crew::NoGate;
 use mpb_report::report_text;
 use mpb_run::Ran;
@@ -74,14 +74,14 @@ fn is_text(rt: &impl Abort, name: &str, report: &[u8], want: &str) {
 
 #[test]
 fn two_processors_by_threads(rt: HostRuntime) -> Result<(), Fail> {
-    let text = report(&rt, rt.alloc(), two_processors(rt.alloc())?)?;
+    let text = report(&rt, rt.alloc(), two_processors(rt.alloc(), &[])?)?;
     is_text(&rt, "two processors", text.as_slice(), TWO_PROCESSORS);
     Ok(())
 }
 
 #[test]
 fn one_absent_by_threads(rt: HostRuntime) -> Result<(), Fail> {
-    let text = report(&rt, rt.alloc(), one_absent(rt.alloc())?)?;
+    let text = report(&rt, rt.alloc(), one_absent(rt.alloc(), false)?)?;
     is_text(&rt, "one absent", text.as_slice(), ONE_ABSENT);
     Ok(())
 }

@@ -1,9 +1,9 @@
 //! Three devices pulse one pin, by threads: how many pulses a collection gathers depends on the schedule,
 //! so what is asked holds in all of them.
 
-use crate::boards::three_pulses;
 use crate::harness::{ran, same};
 use mpb_board::{Board, Op};
+use mpb_cases::three_pulses;
 use mpb_crew::{Gate, NoGate};
 use mpb_spec::{Account, Agent, Hit, What};
 use std::process::Abort;

@@ -14,6 +14,8 @@ pub mod worked;
 
 /// The tables of a row.
 pub enum Tables {
+    /// Those of the usual board.
+    Usual,
     /// Those of a listing.
     Text(&'static [u8]),
     /// Entries, and lines of further base entries, behind a floating pointer with IMCRP clear.

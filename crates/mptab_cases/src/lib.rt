@@ -4,3 +4,4 @@
 
 pub mod boots;
 pub mod images;
+pub mod usual;

@@ -5,12 +5,12 @@ use crate::harness::{
     Answer, answer_of, answer_over, answers, built, built_of, image_of, image_with, is_shown_after,
     of_image, put, same, shelf_of, text_of,
 };
-use crate::usual::{
+use mpt_base::MemShelf;
+use mptab_cases::images::{POINTER, Piece};
+use mptab_cases::usual::{
     END, FIRST, LOCAL_INTR, LOCAL_NMI, POINTER as POINTER_LINE, TO_INTERRUPTS, routes,
     to_interrupts, usual,
 };
-use mpt_base::MemShelf;
-use mptab_cases::images::{POINTER, Piece};
 use std::alloc::Global;
 use std::process::Abort;
 use std::test::Fail;

@@ -3,7 +3,7 @@
 
 use crate::firmware::{Row, are_answered};
 use crate::firmware_usual::MADT;
-use crate::usual::{END, FIRST};
+use mptab_cases::usual::{END, FIRST};
 use std::test::Fail;
 
 /// Default configuration 3, whose bus is EISA.

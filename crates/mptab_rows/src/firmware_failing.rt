@@ -3,7 +3,7 @@
 use crate::firmware::answer_beside;
 use crate::firmware_usual::{CALLS, MADT, PIR};
 use crate::harness::{Answer, image_of, same};
-use crate::usual::usual;
+use mptab_cases::usual::usual;
 use std::alloc::Global;
 use std::process::Abort;
 use std::test::Fail;

@@ -2,7 +2,7 @@
 
 use crate::firmware::{Row, are_answered};
 use crate::firmware_usual::{CALLS, MADT};
-use crate::usual::usual;
+use mptab_cases::usual::usual;
 use std::test::Fail;
 
 /// Each reason of a MADT, and the earlier of two.

@@ -1,6 +1,6 @@
 //! The tables of firmware that say what the usual board's tables say, and the files beside them.
 
-use crate::usual::{END, FIRST, POINTER};
+use mptab_cases::usual::{END, FIRST, POINTER};
 
 /// The MADT that says what the board says.
 pub(crate) const MADT: &[u8] =

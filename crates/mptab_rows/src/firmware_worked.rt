@@ -3,7 +3,7 @@
 
 use crate::firmware::{Row, are_answered};
 use crate::firmware_usual::{CALLS, MADT, PIR, TWO_PROCESSORS};
-use crate::usual::{
+use mptab_cases::usual::{
     END, FIRST, IMCR_POINTER, LOCAL_INTR, LOCAL_NMI, POINTER, to_interrupts, usual,
 };
 use std::test::Fail;

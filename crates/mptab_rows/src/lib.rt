@@ -35,8 +35,6 @@ mod sizes;
 #[cfg(test)]
 mod tables;
 #[cfg(test)]
-mod usual;
-#[cfg(test)]
 mod windows;
 #[cfg(test)]
 mod worked;

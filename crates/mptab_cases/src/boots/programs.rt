@@ -21,39 +21,6 @@ end
 ",
 );
 
-/// A usual board: two processors, a PCI and an ISA bus, 17 interrupts.
-const USUAL: Tables = Tables::Text(
-    b"mptable 1
-pointer at 000F0000 table 000F0010 revision 04 features 0000000000
-header revision 04 oem \"MPTAB   \" product \"BOARD       \" oemtable 00000000 oemsize 0000 local FEE00000 reserved 00
-processor id 00 version 14 flags 03 signature 00000600 features 00000201 reserved 0000000000000000
-processor id 01 version 14 flags 01 signature 00000600 features 00000201 reserved 0000000000000000
-bus id 00 name \"PCI   \"
-bus id 01 name \"ISA   \"
-ioapic id 00 version 11 flags 01 address FEC00000
-ioint kind 00 flags 0000 bus 00 irq 08 dest 00 pin 10
-ioint kind 03 flags 0000 bus 01 irq 00 dest 00 pin 00
-ioint kind 00 flags 0000 bus 01 irq 00 dest 00 pin 02
-ioint kind 00 flags 0000 bus 01 irq 01 dest 00 pin 01
-ioint kind 00 flags 0000 bus 01 irq 03 dest 00 pin 03
-ioint kind 00 flags 0000 bus 01 irq 04 dest 00 pin 04
-ioint kind 00 flags 0000 bus 01 irq 05 dest 00 pin 05
-ioint kind 00 flags 0000 bus 01 irq 06 dest 00 pin 06
-ioint kind 00 flags 0000 bus 01 irq 07 dest 00 pin 07
-ioint kind 00 flags 0000 bus 01 irq 08 dest 00 pin 08
-ioint kind 00 flags 0000 bus 01 irq 09 dest 00 pin 09
-ioint kind 00 flags 0000 bus 01 irq 0A dest 00 pin 0A
-ioint kind 00 flags 0000 bus 01 irq 0B dest 00 pin 0B
-ioint kind 00 flags 0000 bus 01 irq 0C dest 00 pin 0C
-ioint kind 00 flags 0000 bus 01 irq 0D dest 00 pin 0D
-ioint kind 00 flags 0000 bus 01 irq 0E dest 00 pin 0E
-ioint kind 00 flags 0000 bus 01 irq 0F dest 00 pin 0F
-localint kind 03 flags 0000 bus 01 irq 00 dest 00 pin 00
-localint kind 01 flags 0000 bus 01 irq 00 dest FF pin 01
-end
-",
-);
-
 /// The default configurations: two processors, and the I/O interrupts of the standard.
 pub fn defaults() -> &'static [Row] {
     DEFAULTS
@@ -345,7 +312,7 @@ pub fn of_usual() -> &'static [Row] {
 const OF_USUAL: &[Row] = &[
     Row {
         name: "both processors present",
-        tables: USUAL,
+        tables: Tables::Usual,
         script: b"page = 0x9F\n",
         status: 0,
         text: b"mpboot 1
@@ -357,7 +324,7 @@ entries 76
     },
     Row {
         name: "the boot processor absent",
-        tables: USUAL,
+        tables: Tables::Usual,
         script: b"page = 0x9F
 present = [1]
 ",

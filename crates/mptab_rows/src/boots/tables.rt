@@ -1,6 +1,8 @@
 //! Tables as rows say them, and their listings.
 
+use crate::harness::text_of;
 use mptab_cases::boots::{Entry, Tables};
+use mptab_cases::usual::usual;
 use std::alloc::Global;
 use std::test::Fail;
 
@@ -62,6 +64,7 @@ fn push_entries(alloc: Global, text: &mut Vec<u8>, entries: &[Entry]) -> Result<
 /// The listing of these tables.
 pub(crate) fn listing_of(alloc: Global, tables: &Tables) -> Result<Vec<u8>, Fail> {
     match tables {
+        Tables::Usual => text_of(alloc, usual()),
         Tables::Text(listing) => Ok(Vec::from_slice(alloc, listing)?),
         Tables::Listed(entries, lines) => listing_with(alloc, entries, lines),
     }

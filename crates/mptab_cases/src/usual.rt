@@ -2,17 +2,17 @@
 //! Long texts are given by functions: a constant is proved anew wherever it is named.
 
 /// The first line.
-pub(crate) const FIRST: &str = "mptable 1\n";
+pub const FIRST: &str = "mptable 1\n";
 
-/// The line of its floating pointer, and the same with an interrupt mode register.
-pub(crate) const POINTER: &str =
-    "pointer at 000F0000 table 000F0010 revision 04 features 0000000000\n";
+/// The line of its floating pointer.
+pub const POINTER: &str = "pointer at 000F0000 table 000F0010 revision 04 features 0000000000\n";
 
-pub(crate) const IMCR_POINTER: &str =
+/// The same, with an interrupt mode register.
+pub const IMCR_POINTER: &str =
     "pointer at 000F0000 table 000F0010 revision 04 features 0080000000\n";
 
 /// Up to the last I/O interrupt.
-pub(crate) const TO_INTERRUPTS: &str =
+pub const TO_INTERRUPTS: &str =
     "header revision 04 oem \"MPTAB   \" product \"BOARD       \" oemtable 00000000 oemsize 0000 local FEE00000 reserved 00
 processor id 00 version 14 flags 03 signature 00000600 features 00000201 reserved 0000000000000000
 processor id 01 version 14 flags 01 signature 00000600 features 00000201 reserved 0000000000000000
@@ -38,13 +38,14 @@ ioint kind 00 flags 0000 bus 01 irq 0E dest 00 pin 0E
 ioint kind 00 flags 0000 bus 01 irq 0F dest 00 pin 0F
 ";
 
-/// The local interrupts: INTR at LINTIN 0 of the boot processor, and NMI at LINTIN 1 of all.
-pub(crate) const LOCAL_INTR: &str = "localint kind 03 flags 0000 bus 01 irq 00 dest 00 pin 00\n";
+/// The local interrupt INTR at LINTIN 0 of the boot processor.
+pub const LOCAL_INTR: &str = "localint kind 03 flags 0000 bus 01 irq 00 dest 00 pin 00\n";
 
-pub(crate) const LOCAL_NMI: &str = "localint kind 01 flags 0000 bus 01 irq 00 dest FF pin 01\n";
+/// The local interrupt NMI at LINTIN 1 of all processors.
+pub const LOCAL_NMI: &str = "localint kind 01 flags 0000 bus 01 irq 00 dest FF pin 01\n";
 
 /// The last line.
-pub(crate) const END: &str = "end\n";
+pub const END: &str = "end\n";
 
 /// Its listing.
 const USUAL: &[&str] = &[FIRST, POINTER, TO_INTERRUPTS, LOCAL_INTR, LOCAL_NMI, END];
@@ -70,16 +71,16 @@ route 16 io 0 pin 15 vector 2F low 0000002F high 00000000
 ";
 
 /// Up to the last I/O interrupt.
-pub(crate) fn to_interrupts() -> &'static str {
+pub fn to_interrupts() -> &'static str {
     TO_INTERRUPTS
 }
 
 /// The whole listing, in its parts.
-pub(crate) fn usual() -> &'static [&'static str] {
+pub fn usual() -> &'static [&'static str] {
     USUAL
 }
 
 /// Its routes, without the ELCR.
-pub(crate) fn routes() -> &'static str {
+pub fn routes() -> &'static str {
     ROUTES
 }
