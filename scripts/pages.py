@@ -1,8 +1,8 @@
 """What the checks read of the pages, and of the sources that the pages have to agree with."""
-import pathlib
 import re
 
-TOP = pathlib.Path(__file__).resolve().parent.parent
+from sources import TOP, listed
+
 EXAMPLES = TOP / "examples"
 MANUAL = TOP / "docs" / "mptab.1"
 MAP = TOP / "docs" / "MAP.md"
@@ -96,15 +96,9 @@ def example_findings():
 # The crates.
 
 
-def crates_below():
-    """By crate of the repository, in the order of crates.txt: all that its line names."""
-    lines = [line.split("#")[0].partition(":") for line in (TOP / "crates.txt").read_text("utf-8").splitlines()]
-    return {crate.split()[0]: names.split() for crate, _, names in lines if crate.strip()}
-
-
 def stands_on():
     """By crate the crates that it stands on, without those that these stand on themselves."""
-    uses = crates_below()
+    uses = {crate: names for crate, (_, names) in listed().items()}
 
     def all_below(crate, found):
         for name in uses.get(crate, []):

@@ -31,6 +31,12 @@ def tracked():
     return [TOP / name for name in listed.stdout.decode().split("\0") if name]
 
 
+def listed():
+    """By crate, in the order of crates.txt: its line there, and all that the line says that it stands on."""
+    lines = [line.partition("#")[0].strip() for line in (TOP / "crates.txt").read_text("utf-8").splitlines()]
+    return {re.match(r"\w+", line)[0]: (line, line.partition(":")[2].split()) for line in lines if line}
+
+
 def crates():
     return sorted(path.name for path in (TOP / "crates").iterdir() if (path / "src").is_dir())
 
