@@ -1,4 +1,4 @@
-"""What the checks of the pages read of the sources: functions with their contracts, and words of specs/."""
+"""What scripts read of the sources: crates.txt, functions with their contracts, and words of specs/."""
 import pathlib
 import re
 import subprocess
@@ -23,12 +23,12 @@ class Function:
 def tracked():
     """The tracked files, or, where git doesn't say, all but what is made by the toolchain."""
     try:
-        listed = subprocess.run(["git", "ls-files", "-z"], cwd=TOP, capture_output=True, check=True)
+        found = subprocess.run(["git", "ls-files", "-z"], cwd=TOP, capture_output=True, check=True)
     except (OSError, subprocess.CalledProcessError):
         made = {".git", "out", "__pycache__"}
         files = (path for path in TOP.rglob("*") if path.is_file())
         return sorted(path for path in files if not made & set(path.relative_to(TOP).parts))
-    return [TOP / name for name in listed.stdout.decode().split("\0") if name]
+    return [TOP / name for name in found.stdout.decode().split("\0") if name]
 
 
 def listed():
